@@ -1,0 +1,14 @@
+pub mod Parse
+pub mod Lawful
+pub mod Places
+pub mod Round
+pub mod Each
+pub mod Asked
+pub mod Accepted
+pub mod At
+pub mod Tabulated
+pub mod Reread
+pub mod Fitting
+pub mod Reading
+pub mod Deepest
+pub mod PartReading
