@@ -208,23 +208,33 @@ first-row t (suc k) e a =
     let none-there : nodeAt t 0 .len ≡ 0 = eqb-true _ _ ((λ q. not (eqb (sym zero-kind q) 0) || eqb (nodeAt t 0 .len) 0) ∙ laid t 0 (g .layout) .document) in
     (ap kindOf is ∙ ap Some (is-document (kindWith (nodeAt t 0 .kind)) (f .document)), ap contentOf is ∙ ap (part t (nodeAt t 0 .start)) none-there)
 
+-- the counts of accepted records are those of their tree
+pub table-totals : (t : Table) → Accepted t → (size (treeOf t) ≡ length (t .nodes)) × (attrTotal (treeOf t) ≡ length (t .attrs)) × (byteTotal (treeOf t) ≡ length (t .bytes))
+table-totals t a =
+    let r = rows-of-tree (rowsOf t) (table-formed t a) .0 in
+    let same = ap tabulate r ∙ tabulated t a in (
+      sym (size-flatten (treeOf t) 0) ∙ (ap length r ∙ length-rows-of t),
+      sym (attrs-flatten (treeOf t) 0) ∙ (sym (length-all-attrs 0 (flatten 0 (treeOf t))) ∙ ap (λ (s : Table). length (s .attrs)) same),
+      sym (bytes-flatten (treeOf t) 0) ∙ ap (λ (s : Table). length (s .bytes)) same,
+    )
+
 -- accepted records mean a tree that fits, and are its records
 pub accepted-tree : (t : Table) → Accepted t → NarrowRecords t → Fits (treeOf t) × (tabulate (flatten 0 (treeOf t)) ≡ t)
 accepted-tree t a narrow =
     let ok = table-formed t a in
     let r = rows-of-tree (rowsOf t) ok in
     let same = ap tabulate (r .0) ∙ tabulated t a in
-    let many : size (treeOf t) ≡ length (t .nodes) = sym (size-flatten (treeOf t) 0) ∙ (ap length (r .0) ∙ length-rows-of t) in
+    let counts = table-totals t a in
     let first = first-row t (length (t .nodes)) refl a in
     let law = table-kept t a in (
       record {
-        law = subst (λ n. Kept n (treeOf t)) (sym many) law;
+        law = subst (λ n. Kept n (treeOf t)) (sym (counts .0)) law;
         document = first .0;
         empty = first .1;
         ordered = r .1;
-        nodes = omega (arith, many, a .sizes .few-nodes);
-        attrs = omega (arith, sym (attrs-flatten (treeOf t) 0), length-all-attrs 0 (flatten 0 (treeOf t)), ap (λ (s : Table). length (s .attrs)) same, a .sizes .few-attrs);
-        bytes = omega (arith, sym (bytes-flatten (treeOf t) 0), ap (λ (s : Table). length (s .bytes)) same, a .sizes .few-bytes);
+        nodes = omega (arith, counts .0, a .sizes .few-nodes);
+        attrs = omega (arith, counts .1, a .sizes .few-attrs);
+        bytes = omega (arith, counts .2, a .sizes .few-bytes);
         height = low-enough (rowsOf t) ok;
         widths = widths-flatten (treeOf t) 0 (subst RowsNarrow (sym (r .0)) (rows-narrow t narrow (length (t .nodes)) 0));
       },
