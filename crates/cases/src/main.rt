@@ -74,7 +74,8 @@ fn show(rt: &LibcRuntime, name: &str, file: &[u8]) -> Result<(), AnyError> {
         rt.stdout().write_all(text.as_slice())?;
         return Ok(());
     }
-    rt.stdout().write_all(&text.as_slice()[0..first_line(text.as_slice())])?;
+    rt.stdout()
+        .write_all(&text.as_slice()[0..first_line(text.as_slice())])?;
     let len = text.len();
     println!(rt, "({len} bytes)")?;
     Ok(())

@@ -1,4 +1,5 @@
 ghost use mathlib.Core.Path.{_≡_};
+ghost use Rattle.std.specs.Options.{Cases};
 ghost use Rattle.page.specs.Kinds.{code, coded};
 use crate::kind::NodeKind;
 
@@ -17,10 +18,11 @@ impl NodeKind {
     }
 
     // The kind that has this code, if one has.
-    pub fn from_code(code: u8) -> Option<NodeKind>
-        ensures { λ r. ⌜ r ≡ coded code ⌝ }
+    pub fn from_code(number: u8) -> Option<NodeKind>
+        ensures kind { λ r. ⌜ r ≡ coded number ⌝ }
+        ensures inverse { λ r. ⌜ Cases r ((k : NodeKind) → code k ≡ number → ⊥) (λ k. code k ≡ number) ⌝ }
     {
-        match code {
+        match number {
             0 => Some(NodeKind::Document),
             1 => Some(NodeKind::Doctype),
             2 => Some(NodeKind::Text),

@@ -12,36 +12,7 @@ use crate::sections::Sections;
 use table::Check;
 
 // The file of the document alone: one node of 16 bytes, no attributes, no bytes.
-const DOCUMENT: [u8; 28] = [
-    1,
-    0,
-    0,
-    0,
-    0,
-    0,
-    0,
-    0,
-    0,
-    0,
-    0,
-    0,
-    0,
-    0,
-    0,
-    0,
-    0,
-    0,
-    0,
-    0,
-    0,
-    0,
-    0,
-    0,
-    0,
-    0,
-    0,
-    0,
-];
+const DOCUMENT: &[u8; 28] = b"\x01\0\0\0\0\0\0\0\0\0\0\0\0\0\0\0\0\0\0\0\0\0\0\0\0\0\0\0";
 
 impl<'a> OpenedPage<'a> {
     // A page that is the document alone.
@@ -54,7 +25,7 @@ impl<'a> OpenedPage<'a> {
             bytes: 0,
         };
         OpenedPage {
-            sections: Sections::over(&DOCUMENT, counts),
+            sections: Sections::over(DOCUMENT, counts),
             parents: [0; 4096],
             ends: [0; 4096],
             height: 0,

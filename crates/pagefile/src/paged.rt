@@ -17,6 +17,9 @@ use table::AttrRecord;
 use table::NodeRecord;
 use table::Records;
 
+// The first node is the document.
+const ROOT: usize = 0;
+
 // The kind of a code of at most 4.
 fn kind_with(code: u8) -> NodeKind
     ensures { λ r. ⌜ r ≡ kindWith code ⌝ }
@@ -62,11 +65,11 @@ pub impl<'a> Page for OpenedPage<'a> as OpenedPagePage {
     ghost kept = { opened-kept };
 
     fn root(&self) -> usize {
-        0
+        ROOT
     }
 
     fn bound(&self) -> usize {
-        self.sections.counts.nodes
+        self.sections.nodes()
     }
 
     fn has(&self, n: usize) -> bool {
@@ -78,7 +81,7 @@ pub impl<'a> Page for OpenedPage<'a> as OpenedPagePage {
     }
 
     fn parent_of(&self, n: usize) -> Option<usize> {
-        if n == 0 {
+        if n == ROOT {
             return None;
         }
         if n < self.sections.counts.nodes {

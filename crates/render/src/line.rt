@@ -87,7 +87,12 @@ fn push_attrs<P: Page>(p: &P, n: usize, out: &mut Vec<u8>) -> Result<(), AllocEr
 }
 
 // The line of a node at a depth.
-pub(crate) fn push_line<P: Page>(p: &P, n: usize, depth: usize, out: &mut Vec<u8>) -> Result<(), AllocError>
+pub(crate) fn push_line<P: Page>(
+    p: &P,
+    n: usize,
+    depth: usize,
+    out: &mut Vec<u8>,
+) -> Result<(), AllocError>
     requires there { ⌜ hasIn (tree (now p)) n ≡ true ⌝ }
     requires flat { ⌜ depth ≤ 64 ⌝ }
     ensures { λ r. ⌜ made r (λ _. vec-items (now (out .exit)) ≡ vec-items (now (out .entry)) ++ lineOf depth (find (tree (now (p .entry))) n)) ⌝ }

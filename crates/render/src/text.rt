@@ -26,7 +26,12 @@ fn refusal_text(heap: Global, check: Check) -> Result<Vec<u8>, AllocError>
 }
 
 // The header of a page with these counts.
-fn header_text(heap: Global, nodes: usize, attrs: usize, bytes: usize) -> Result<Vec<u8>, AllocError>
+fn header_text(
+    heap: Global,
+    nodes: usize,
+    attrs: usize,
+    bytes: usize,
+) -> Result<Vec<u8>, AllocError>
     ensures { λ r. ⌜ made r (λ v. vec-items v ≡ header nodes attrs bytes) ⌝ }
 {
     let text = format!(heap, "# {nodes} nodes, {attrs} attributes, {bytes} bytes\n")?;
