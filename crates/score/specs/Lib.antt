@@ -1,0 +1,5 @@
+pub mod Ranges
+pub mod Exact
+pub mod Laws
+pub mod Greatest
+pub mod Choice
