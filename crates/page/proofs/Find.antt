@@ -1,16 +1,15 @@
 -- What holds of `find` in a tree where no number stands twice.
-use mathlib.Core.Path.{_≡_, refl, sym, ap, subst, _∙_}
+use mathlib.Core.Path.{_≡_, refl, sym, ap, _∙_}
 use mathlib.Core.Bool.{Bool, true, false, cond, _||_}
 use mathlib.Core.List.{List}
 use mathlib.Core.Logic.{_⊎_, inl, inr}
-use Prim.Native.Nat.{ℕ, _+_, _≤_, _<_}
+use Prim.Native.Nat.{ℕ}
 use native.Mathlib.Omega.{arith}
 use lib.Dec.{eqb}
-use Rattle.std.proofs.shelf.Tests.{eqb-true, eqb-false, eq-eqb, ne-eqb, both-ways, or-parts, or-left, or-right, or-cases, cases-bool, cond-true, cond-false}
-use Rattle.std.specs.declared.option.Option.{Option}
-use Rattle.std.specs.declared.option.Option.the-variants.{Some, None}
+use Rattle.std.proofs.shelf.Tests.{eqb-true, eq-eqb, ne-eqb, both-ways, or-parts, or-left, or-right, cases-bool, cond-true, cond-false}
+use Rattle.std.specs.declared.option.Option.the-variants.{Some}
 use Rattle.page.specs.declared.kind.NodeKind.{NodeKind}
-use Rattle.page.specs.Forest.{Forest, none, node, orElse, find, has, headOf, kidsOf, restOf, size, texts}
+use Rattle.page.specs.Forest.{Forest, none, node, orElse, find, has, headOf, kidsOf, restOf}
 use Rattle.page.specs.Kept.{Unique}
 
 -- a number that does not stand in the forest is not found

@@ -6,13 +6,13 @@ use mathlib.Core.Logic.{_⊎_, inl, inr}
 use Prim.Native.Nat.{ℕ, suc, _+_, _≤_, _<_}
 use native.Mathlib.Omega.{arith}
 use lib.Dec.{eqb}
-use Rattle.std.proofs.shelf.Tests.{eqb-true, eqb-false, eq-eqb, ne-eqb, both-ways, or-parts, or-left, or-right, or-cases, or-from, cases-bool, cond-true, cond-false}
+use Rattle.std.proofs.shelf.Tests.{eqb-true, ne-eqb, both-ways, or-parts, or-left, or-right, or-cases, or-from, cases-bool, cond-true, cond-false}
 use Rattle.std.specs.declared.option.Option.{Option}
 use Rattle.std.specs.declared.option.Option.the-variants.{Some, None}
 use Rattle.page.specs.declared.kind.NodeKind.{NodeKind}
 use Rattle.page.specs.Forest.{Forest, none, node, orElse, orElseO, find, has, headOf, kidsOf, restOf, size, among, parentIn}
 use Rattle.page.specs.Kept.{Unique, Below}
-use Rattle.page.proofs.Find.{find-under, find-beside, At, at, find-first, apart, off-kids, unique-find, find-find, head-find, has-find}
+use Rattle.page.proofs.Find.{find-under, find-beside, at, find-first, apart, off-kids, unique-find, find-find, head-find, has-find}
 use Rattle.page.proofs.Walk.{size-parts}
 
 pub among-has : (f : Forest) (n : ℕ) → among f n ≡ true → has f n ≡ true

@@ -13,10 +13,9 @@ use Rattle.std.proofs.shelf.Maps.{nth-past}
 use Rattle.std.proofs.shelf.Tests.{lt-ltb, le-ltb, both-ways, cases-lt}
 use Rattle.std.specs.declared.option.Option.{Option}
 use Rattle.std.specs.declared.option.Option.the-variants.{Some, None}
-use Rattle.page.specs.declared.kind.NodeKind.{NodeKind}
 use Rattle.page.specs.declared.kind.Part.{Part}
 use Rattle.page.specs.declared.kind.Part.the-variants.{Content, Name, Value}
-use Rattle.page.specs.Forest.{Forest, none, node, find, has, headOf, kindOf, countOf, nameIn, valueIn, partIn, partOf, lengthIn, byteIn}
+use Rattle.page.specs.Forest.{Forest, none, node, find, has, headOf, countOf, nameIn, valueIn, partIn, partOf, lengthIn, byteIn}
 use Rattle.page.proofs.Find.{at, find-absent}
 
 -- a place below the length has an item, and no other

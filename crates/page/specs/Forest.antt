@@ -1,6 +1,6 @@
 -- An ordered tree as first child and next sibling: a node, the forest of its children, and the forest of its later siblings.
 use mathlib.Core.List.{List, []}
-use mathlib.Core.Bool.{Bool, true, false, cond, _||_}
+use mathlib.Core.Bool.{Bool, false, cond, _||_}
 use Prim.Native.Nat.{ℕ, suc, _+_, _-_, max}
 use lib.Dec.{eqb}
 use lib.ListN.{length}

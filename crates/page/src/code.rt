@@ -1,3 +1,4 @@
+// The codes of the kinds.
 ghost use mathlib.Core.Path.{_≡_};
 ghost use Rattle.std.specs.Options.{Cases};
 ghost use Rattle.page.specs.Kinds.{code, coded};

@@ -1,3 +1,4 @@
+// How deep a page is.
 ghost use mathlib.Core.Path.{_≡_};
 ghost use mathlib.Core.Bool.{true};
 ghost use Rattle.page.specs.Forest.{find, has, kidsOf, levels, heightOf};

@@ -1,3 +1,5 @@
+// The kinds of nodes and their parts.
+
 // What a node is.
 #[derive(Clone, Copy, PartialEq, Eq, Debug)]
 pub enum NodeKind {

@@ -1,3 +1,4 @@
+// Pages: ordered trees of numbered nodes, and the questions that every page answers.
 mod ask;
 mod code;
 mod height;

@@ -1,20 +1,19 @@
 -- A file's checks of nodes are those of its records.
 use mathlib.Core.Path.{_≡_, refl, sym, ap, _∙_}
-use mathlib.Core.List.{List, [], _∷_, _++_}
-use mathlib.Core.Bool.{Bool, true, false, cond, _&&_}
-use Prim.Native.Nat.{ℕ, zero, suc, _+_, _≤_}
+use mathlib.Core.List.{List}
+use mathlib.Core.Bool.{true, cond, _&&_}
+use Prim.Native.Nat.{ℕ, zero, suc}
 use native.Mathlib.Omega.{arith}
-use lib.Dec.{leb}
 use lib.ListN.{length}
-use Rattle.std.proofs.shelf.Tests.{le-leb, and-parts}
+use Rattle.std.proofs.shelf.Tests.{and-from}
 use Rattle.std.specs.declared.option.Option.the-variants.{Some, None}
-use Rattle.table.specs.declared.record.Section.{Section}
 use Rattle.table.specs.declared.record.Section.the-variants.{Nodes, Attributes, Bytes}
 use Rattle.table.specs.declared.record.Check.the-variants.{Kind, Depth, Layout, WellFormed}
 use Rattle.table.specs.Checks as table
-use Rattle.table.specs.Checks.{kindOk, depthOk, layoutOk, formedOk, inRange, least, most, firstNo, granted, ofNodes, accepts}
+use Rattle.table.specs.Checks.{kindOk, depthOk, layoutOk, formedOk, inRange, firstNo, granted, ofNodes, accepts}
 use Rattle.table.proofs.Asked.{granted-parts, goes-on}
 use Rattle.table.proofs.Accepted.{Accepted, accepted}
+use Rattle.table.proofs.Reread.{in-range}
 use Rattle.pagefile.specs.File.{count, nodeIn, attrIn, tableOf}
 use Rattle.pagefile.specs.Opening.{answer, ofSections, checks, verdict}
 use Rattle.pagefile.proofs.Listed.{length-listed}
@@ -41,13 +40,6 @@ module _ (f : List ℕ) where
   pub length-attrs : length (tableOf f .attrs) ≡ count f Attributes
   length-attrs = length-listed (attrIn f) (count f Attributes) 0
 
-  both : (a b : Bool) → a ≡ true → b ≡ true → (a && b) ≡ true
-  both true b e g = g
-  both false b e g = e
-
-  in-range : (s : Section) (n : ℕ) → least s ≤ n → n ≤ most s → inRange s n ≡ true
-  in-range s n a b = both (leb (least s) n) (leb n (most s)) (le-leb (least s) n a) (le-leb n (most s) b)
-
   -- the records of a file that is accepted are accepted
   pub accepts-table : granted (answer f) (checks f) ≡ true → accepts (tableOf f) ≡ true
   accepts-table h =
@@ -57,9 +49,9 @@ module _ (f : List ℕ) where
       let n = length-nodes in
       let a = length-attrs in
       let b = length-bytes f z in
-      both (inRange Nodes (length (t .nodes))) _ (in-range Nodes (length (t .nodes)) (omega (arith, z .some-nodes)) (omega (arith, z .few-nodes)))
-      (both (inRange Attributes (length (t .attrs))) _ (in-range Attributes (length (t .attrs)) (omega arith) (omega (arith, z .few-attrs)))
-      (both (inRange Bytes (length (t .bytes))) _ (in-range Bytes (length (t .bytes)) (omega arith) (omega (arith, z .few-bytes)))
+      and-from (inRange Nodes (length (t .nodes))) _ (in-range Nodes (length (t .nodes)) (omega (arith, z .some-nodes)) (omega (arith, z .few-nodes)))
+      (and-from (inRange Attributes (length (t .attrs))) _ (in-range Attributes (length (t .attrs)) (omega arith) (omega (arith, z .few-attrs)))
+      (and-from (inRange Bytes (length (t .bytes))) _ (in-range Bytes (length (t .bytes)) (omega arith) (omega (arith, z .few-bytes)))
       (ap (λ k. granted (table.answer t) (ofNodes 0 k)) n ∙ (sym (same-granted (count f Nodes) 0) ∙ p .1))))
 
   -- what a file that is accepted says

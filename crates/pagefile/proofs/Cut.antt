@@ -1,10 +1,10 @@
 -- A part of the bytes, cut where they end.
-use mathlib.Core.Path.{_≡_, refl, sym, ap, _∙_}
-use mathlib.Core.List.{List, []}
+use mathlib.Core.Path.{_≡_, sym, ap, _∙_}
+use mathlib.Core.List.{List}
 use mathlib.Core.Logic.{_⊎_, inl, inr}
 use Prim.Native.Nat.{ℕ, _+_, _-_, _≤_, _<_, min}
 use native.Mathlib.Omega.{arith}
-use lib.ListN.{length, take, drop, length-take, length-drop}
+use lib.ListN.{length, take, drop, length-take}
 use lib.Seq.{take-all, take-nil}
 use Rattle.std.proofs.shelf.Lists.{drop-drop, drop-all, drop-take, take-take}
 use Rattle.std.proofs.shelf.Tests.{cases-lt}

@@ -1,11 +1,11 @@
 -- A file is accepted exactly if it is the file of a tree that fits, and then that is its tree.
-use mathlib.Core.Path.{_≡_, refl, sym, ap, subst, _∙_}
+use mathlib.Core.Path.{_≡_, sym, ap, _∙_}
 use mathlib.Core.List.{List, [], _∷_, _++_}
 use mathlib.Core.Bool.{true}
 use mathlib.Core.Logic.{_⊎_, inl, inr}
-use Prim.Native.Nat.{ℕ, zero, suc, _+_, _*_, _≤_, _<_}
+use Prim.Native.Nat.{ℕ, _+_, _*_, _≤_, _<_}
 use native.Mathlib.Omega.{arith}
-use lib.ListN.{length, getD, length-append}
+use lib.ListN.{length, length-append}
 use Rattle.std.proofs.shelf.Tests.{cases-lt, and-parts}
 use Rattle.std.specs.declared.option.Option.the-variants.{None}
 use Rattle.page.specs.Forest.{Forest}
@@ -14,12 +14,12 @@ use Rattle.table.specs.declared.record.Section.the-variants.{Nodes, Attributes,
 use Rattle.table.specs.Rows.{Row, flatten}
 use Rattle.table.specs.Table.{Table, attrAt, noAttr, treeOf}
 use Rattle.table.specs.Checks as table
-use Rattle.table.specs.Checks.{firstNo, granted, ofNodes, accepts}
+use Rattle.table.specs.Checks.{granted, ofNodes, accepts}
 use Rattle.table.specs.Tabulate.{joined, bytesOf, nodeRecords, attrRecords, allAttrs, allBytes, tabulate}
 use Rattle.table.specs.Fits.{Narrow, Fits}
 use Rattle.table.proofs.Asked.{all-granted, none-refused, granted-join}
 use Rattle.table.proofs.Accepted.{accepted}
-use Rattle.table.proofs.Reread.{attrCount, length-nodes, length-all-attrs}
+use Rattle.table.proofs.Reread.{attrCount, length-nodes}
 use Rattle.table.proofs.Fitting.{RowsNarrow, narrow-flatten, rows-fit, tree-accepted, accepted-tree}
 use Rattle.pagefile.specs.File.{count, countAt, attrIn, tableOf}
 use Rattle.pagefile.specs.Opening.{answer, ofSections, checks, verdict}

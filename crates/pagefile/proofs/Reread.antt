@@ -1,12 +1,12 @@
 -- What records write is read again.
 use mathlib.Core.Path.{_≡_, refl, sym, ap, _∙_}
 use mathlib.Core.List.{List, [], _∷_, _++_, append-nil}
-use mathlib.Core.Bool.{Bool, true, false, _&&_}
-use Prim.Native.Nat.{ℕ, zero, suc, _+_, _-_, _*_, _/_, _%_, _≤_, _<_}
+use mathlib.Core.Bool.{true, _&&_}
+use Prim.Native.Nat.{ℕ, suc, _+_, _*_, _/_, _%_, _≤_, _<_}
 use native.Mathlib.Omega.{arith}
 use lib.Dec.{eqb, leb}
 use lib.ListN.{length, take, drop, length-append}
-use Rattle.std.proofs.shelf.Tests.{eq-eqb, le-leb}
+use Rattle.std.proofs.shelf.Tests.{eq-eqb, le-leb, and-from}
 use Rattle.table.specs.declared.record.Section.{Section}
 use Rattle.table.specs.declared.record.Section.the-variants.{Nodes, Attributes, Bytes}
 use Rattle.table.specs.declared.record.NodeRecord.{NodeRecord}
@@ -28,10 +28,6 @@ NodesFit (x ∷ xs) = (x .attrs < 65536) × (x .first < 4294967296) × (x .start
 abbrev pub AttrsFit : List AttrRecord → Type 0
 AttrsFit [] = Unit {0}
 AttrsFit (a ∷ more) = (a .name < 65536) × (a .value < 65536) × (a .start < 4294967296) × AttrsFit more
-
-both : (a b : Bool) → a ≡ true → b ≡ true → (a && b) ≡ true
-both true b e g = g
-both false b e g = e
 
 length-nodes : (xs : List NodeRecord) → length (spread nodeBytes xs) ≡ 16 * length xs
 length-nodes [] = refl
@@ -101,9 +97,9 @@ module _ (f : List ℕ) where
 
   section-yes : (s : Section) → countAt f s + 4 ≤ length f → least s ≤ count f s → count f s ≤ most s → endAt f s ≤ length f → granted (answer f) (ofSection s) ≡ true
   section-yes s a b c d =
-      both (leb (countAt f s + 4) (length f)) _ (le-leb (countAt f s + 4) (length f) a)
-      (both (leb (least s) (count f s) && leb (count f s) (most s)) _ (both (leb (least s) (count f s)) (leb (count f s) (most s)) (le-leb (least s) (count f s) b) (le-leb (count f s) (most s) c))
-      (both (leb (endAt f s) (length f)) true (le-leb (endAt f s) (length f) d) refl))
+      and-from (leb (countAt f s + 4) (length f)) _ (le-leb (countAt f s + 4) (length f) a)
+      (and-from (leb (least s) (count f s) && leb (count f s) (most s)) _ (and-from (leb (least s) (count f s)) (leb (count f s) (most s)) (le-leb (least s) (count f s) b) (le-leb (count f s) (most s) c))
+      (and-from (leb (endAt f s) (length f)) true (le-leb (endAt f s) (length f) d) refl))
 
 -- the file of records within a file's limits has its sections, and has those records
 pub reread : (t : Table) → 1 ≤ length (t .nodes) → length (t .nodes) ≤ 4096 → length (t .attrs) ≤ 8192 → length (t .bytes) ≤ 131072 → NodesFit (t .nodes) → AttrsFit (t .attrs)
@@ -134,7 +130,7 @@ reread t some few fa fb fit-n fit-a =
     let sa : granted (answer f) (ofSection Attributes) ≡ true = section-yes f Attributes (omega arith) (omega arith) (omega arith) (omega arith) in
     let sb : granted (answer f) (ofSection Bytes) ≡ true = section-yes f Bytes (omega arith) (omega arith) (omega arith) (omega arith) in
     let end : endAt f Bytes ≡ length f = omega arith in
-    let last : granted (answer f) (NothingFollows ∷ []) ≡ true = both (eqb (endAt f Bytes) (length f)) true (eq-eqb (endAt f Bytes) (length f) end) refl in
+    let last : granted (answer f) (NothingFollows ∷ []) ≡ true = and-from (eqb (endAt f Bytes) (length f)) true (eq-eqb (endAt f Bytes) (length f) end) refl in
     let nodes = ap (listed (nodeIn f) 0) cn ∙ nodes-read f (t .nodes) 0 fit-n (at-left f 4 (spread nodeBytes (t .nodes)) P2 h4) in
     let attrs = ap (listed (attrIn f) 0) ca ∙ attrs-read f (t .attrs) 0 fit-a (at-left f (countAt f Attributes + 4 + 8 * 0) (spread attrBytes (t .attrs)) P4 hA) in
     let bytes = ap (λ k. take k (drop (countAt f Bytes + 4) f)) cb ∙ at-part f (countAt f Bytes + 4) P5 hC in (

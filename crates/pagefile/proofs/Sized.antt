@@ -1,18 +1,18 @@
 -- What the checks of the sections say of a file.
-use mathlib.Core.Path.{_≡_, refl, sym, ap, _∙_}
+use mathlib.Core.Path.{_≡_}
 use mathlib.Core.List.{List, [], _∷_, _++_}
-use mathlib.Core.Bool.{Bool, true, _&&_}
-use Prim.Native.Nat.{ℕ, _+_, _-_, _*_, _≤_, _<_}
+use mathlib.Core.Bool.{true}
+use Prim.Native.Nat.{ℕ, _+_, _*_, _≤_}
 use native.Mathlib.Omega.{arith}
 use lib.Dec.{leb}
-use lib.ListN.{length, take, drop, length-take, length-drop}
+use lib.ListN.{length, length-take, length-drop}
 use Rattle.std.proofs.shelf.Tests.{and-parts, eqb-true, leb-true}
 use Rattle.table.specs.declared.record.Section.{Section}
 use Rattle.table.specs.declared.record.Section.the-variants.{Nodes, Attributes, Bytes}
-use Rattle.table.specs.declared.record.Check.the-variants.{CountPresent, CountInRange, RecordsPresent, NothingFollows}
+use Rattle.table.specs.declared.record.Check.the-variants.{CountPresent, CountInRange, NothingFollows}
 use Rattle.table.specs.Checks.{least, most, granted}
 use Rattle.table.proofs.Asked.{granted-parts}
-use Rattle.pagefile.specs.File.{count, countAt, endAt, tableOf}
+use Rattle.pagefile.specs.File.{count, endAt, tableOf}
 use Rattle.pagefile.specs.Opening.{answer, ofSection, ofSections}
 
 pub record Sized (f : List ℕ) : Type 0 where

@@ -1,6 +1,6 @@
 -- How a tree is written as a page file.
 use mathlib.Core.List.{List, [], _∷_, _++_}
-use Prim.Native.Nat.{ℕ, _+_, _/_, _%_}
+use Prim.Native.Nat.{ℕ, _/_, _%_}
 use lib.ListN.{length}
 use Rattle.page.specs.Forest.{Forest}
 use Rattle.table.specs.declared.record.NodeRecord.{NodeRecord}

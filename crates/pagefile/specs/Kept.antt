@@ -1,5 +1,5 @@
 -- An opened page keeps the law of a page.
-use mathlib.Core.Path.{_≡_, sym, subst}
+use mathlib.Core.Path.{sym, subst}
 use denote.Ref.{now}
 use Rattle.page.specs.Kept.{Kept}
 use Rattle.table.proofs.Accepted.{accepted, table-kept}

@@ -1,3 +1,4 @@
+// The verdict on a file.
 ghost use mathlib.Core.Path.{_≡_};
 ghost use Rattle.std.specs.Vec.{made};
 ghost use Rattle.table.specs.Checks.{refused};

@@ -1,3 +1,4 @@
+// Page files: the format, opening, and the opened page.
 mod check;
 mod counts;
 mod fields;

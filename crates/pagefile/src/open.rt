@@ -1,3 +1,4 @@
+// Opening a page file.
 ghost use mathlib.Core.Path.{_≡_};
 ghost use Rattle.std.specs.Results.{Cases};
 ghost use Rattle.table.specs.Table.{treeOf};

@@ -1,6 +1,6 @@
-ghost use mathlib.Core.Path.{_≡_, ap};
-ghost use mathlib.Core.Bool.{true};
-ghost use Prim.Native.Nat.{ℕ, _+_, _<_, _≤_};
+// The answers of an opened page, from its records and links.
+ghost use mathlib.Core.Path.{_≡_};
+ghost use Prim.Native.Nat.{_+_, _<_};
 ghost use lib.ListN.{getD};
 ghost use denote.Ref.{now};
 ghost use Rattle.table.specs.Table.{kindWith, attrAt};

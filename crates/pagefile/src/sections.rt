@@ -1,3 +1,4 @@
+// The sections of a page file.
 ghost use mathlib.Core.Path.{_≡_};
 ghost use mathlib.Core.Bool.{true};
 ghost use denote.Ref.{now};

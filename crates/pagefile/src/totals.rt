@@ -1,3 +1,4 @@
+// The counts of an opened page.
 ghost use mathlib.Core.Path.{_≡_};
 ghost use Rattle.page.specs.Forest.{size};
 ghost use Rattle.table.specs.Fits.{attrTotal, byteTotal};

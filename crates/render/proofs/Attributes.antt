@@ -1,13 +1,12 @@
 -- The parts of a node that was found.
-use mathlib.Core.Path.{_≡_, refl, sym, ap, _∙_}
-use mathlib.Core.Bool.{true}
-use mathlib.Core.List.{List, [], _∷_}
+use mathlib.Core.Path.{_≡_, ap}
+use mathlib.Core.List.{[]}
 use Prim.Native.Nat.{ℕ, _<_}
 use native.Mathlib.Omega.{arith}
 use lib.ListN.{length, getD}
-use Rattle.std.specs.declared.option.Option.the-variants.{Some, None}
+use Rattle.std.specs.declared.option.Option.the-variants.{Some}
 use Rattle.std.proofs.shelf.Maps.{nth-getD}
-use Rattle.page.specs.declared.kind.Part.the-variants.{Content, Name, Value}
+use Rattle.page.specs.declared.kind.Part.the-variants.{Name, Value}
 use Rattle.page.specs.Forest.{Forest, none, node, attrsOf, countOf, partOf, nameIn, valueIn}
 
 pub attr-name : (f : Forest) (j : ℕ) → j < length (attrsOf f) → partOf f (Name j) ≡ Some (getD (attrsOf f) j ([], []) .0)

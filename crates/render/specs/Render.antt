@@ -1,6 +1,6 @@
 -- The text of a page: a header with its counts, then a line for each node in document order.
 use mathlib.Core.List.{List, [], _∷_, _++_}
-use mathlib.Core.Bool.{Bool, cond, _||_}
+use mathlib.Core.Bool.{cond, _||_}
 use Prim.Native.Nat.{ℕ, suc, _*_, _/_, _%_}
 use lib.Chars.{codes}
 use lib.Dec.{eqb, ltb}

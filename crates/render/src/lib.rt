@@ -1,3 +1,4 @@
+// The text of a page.
 mod escape;
 mod line;
 mod lines;

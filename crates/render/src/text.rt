@@ -1,9 +1,9 @@
+// The whole answer to a file.
 ghost use mathlib.Core.Path.{_≡_};
-ghost use mathlib.Core.List.{_++_};
 ghost use Rattle.std.specs.Vec.{made};
 ghost use Rattle.std.specs.Of.Vec.{vec-items};
-ghost use Rattle.page.specs.Forest.{Forest, size};
-ghost use Rattle.table.specs.Fits.{attrTotal, byteTotal, Fits};
+ghost use Rattle.page.specs.Forest.{Forest};
+ghost use Rattle.table.specs.Fits.{Fits};
 ghost use Rattle.pagefile.specs.Format.{encode};
 ghost use Rattle.pagefile.specs.Opened.{openedTree};
 ghost use Rattle.render.specs.Render.{header, render};

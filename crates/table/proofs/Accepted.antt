@@ -1,13 +1,12 @@
 -- What it means that every check of the nodes was answered yes.
 use mathlib.Core.Path.{_≡_, refl, sym, ap, subst, _∙_}
-use mathlib.Core.List.{List, [], _∷_, _++_}
 use mathlib.Core.Bool.{Bool, true, false, cond, not, _&&_, _||_}
 use mathlib.Core.Logic.{_⊎_, inl, inr}
-use Prim.Native.Nat.{ℕ, zero, suc, _+_, _-_, _*_, _≤_, _<_}
+use Prim.Native.Nat.{ℕ, zero, suc, _+_, _-_, _≤_, _<_}
 use native.Mathlib.Omega.{arith}
 use lib.Dec.{eqb, leb}
 use lib.ListN.{length, length-take}
-use Rattle.std.proofs.shelf.Tests.{and-parts, or-cases, eqb-true, eqb-false, eq-eqb, ne-eqb, leb-true, both-ways, cond-true, cond-false, le-leb, cases-eq}
+use Rattle.std.proofs.shelf.Tests.{and-parts, or-cases, eqb-true, ne-eqb, leb-true, both-ways, cond-true, cond-false, le-leb, cases-eq}
 use Rattle.page.specs.declared.kind.NodeKind.{NodeKind}
 use Rattle.page.specs.declared.kind.NodeKind.the-variants.{Document, Doctype, Text, Comment, Element}
 use Rattle.page.specs.Kinds.{isElement, isDocument, ifText}
@@ -17,7 +16,7 @@ use Rattle.table.specs.declared.record.NodeRecord.{NodeRecord}
 use Rattle.table.specs.declared.record.Section.{Section}
 use Rattle.table.specs.declared.record.Section.the-variants.{Nodes, Attributes, Bytes}
 use Rattle.table.specs.declared.record.Check.the-variants.{SectionsEnd}
-use Rattle.table.specs.Rows.{Row, isParent, reach, empty, bare, steps, total, formed, RowsFormed}
+use Rattle.table.specs.Rows.{isParent, reach, empty, bare, steps, total, formed, RowsFormed}
 use Rattle.table.specs.Table.{Table, nodeAt, attrAt, part, kindWith, attrsFrom, rowAt, rowsFrom, rowsOf, treeOf}
 use Rattle.table.specs.Checks.{each, kindOk, depthOk, isParentCode, layoutOk, formedOk, attrOk, attrFormed, attrEnd, attrStart, attrsBefore, bytesBefore, endsOk, inRange, least, most, answer, granted, ofNode, ofNodes, accepts}
 use Rattle.table.proofs.Each.{each-at}

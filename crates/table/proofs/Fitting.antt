@@ -1,38 +1,30 @@
 -- Trees that fit and records that are accepted are one.
 use mathlib.Core.Path.{_≡_, refl, sym, ap, subst, _∙_}
-use mathlib.Core.List.{List, [], _∷_, _++_, append-assoc, append-nil}
-use mathlib.Core.Bool.{Bool, true, false, cond, not, _&&_, _||_}
-use mathlib.Core.Logic.{_⊎_, inl, inr}
-use Prim.Native.Nat.{ℕ, zero, suc, _+_, _-_, _≤_, _<_, max}
+use mathlib.Core.List.{List, [], _∷_, _++_, append-assoc}
+use mathlib.Core.Bool.{true, false, cond, not, _&&_, _||_}
+use Prim.Native.Nat.{ℕ, zero, suc, _+_, _≤_, _<_}
 use native.Mathlib.Omega.{arith}
 use lib.Dec.{eqb, leb}
 use lib.ListN.{length, take, drop, length-append}
-use Rattle.std.proofs.shelf.Tests.{both-ways, le-leb, eqb-true, or-cases, or-left, or-right, cond-true, cond-false}
+use Rattle.std.proofs.shelf.Tests.{both-ways, le-leb, eqb-true, and-from}
 use Rattle.std.specs.declared.option.Option.{Option}
-use Rattle.std.specs.declared.option.Option.the-variants.{Some, None}
-use Rattle.std.specs.Options.{isSome}
-use Rattle.unicode.specs.Table.{wellFormed}
+use Rattle.std.specs.declared.option.Option.the-variants.{Some}
 use Rattle.page.specs.declared.kind.NodeKind.{NodeKind}
 use Rattle.page.specs.declared.kind.NodeKind.the-variants.{Document, Doctype, Text, Comment, Element}
-use Rattle.page.specs.Kinds.{isElement, isDocument, ifText}
-use Rattle.page.specs.Forest.{Forest, none, node, kindOf, contentOf, headOf, kidsOf, restOf, size, levels, heightOf, texts}
-use Rattle.page.specs.Kept.{Plain, Inner, AttrsFormed, WellFormed, Kept}
-use Rattle.table.specs.declared.record.AttrRecord.{AttrRecord}
-use Rattle.table.specs.Rows.{Row, flatten, parse, isParent, reach, empty, bare, steps, total, formed, RowsFormed, Numbered}
-use Rattle.table.specs.Table.{Table, nodeAt, attrAt, noAttr, part, kindWith, attrOf, attrsFrom, rowAt, rowsFrom, rowsOf, treeOf}
+use Rattle.page.specs.Kinds.{isElement, isDocument}
+use Rattle.page.specs.Forest.{Forest, none, node, kindOf, contentOf, size, levels, heightOf, texts}
+use Rattle.page.specs.Kept.{Plain, Inner, WellFormed, Kept}
+use Rattle.table.specs.Rows.{Row, flatten, parse, isParent, reach, empty, bare, steps, total, formed, RowsFormed}
+use Rattle.table.specs.Table.{Table, nodeAt, attrAt, part, kindWith, attrsFrom, rowAt, rowsFrom, rowsOf, treeOf}
 use Rattle.table.specs.Checks.{accepts}
-use Rattle.table.specs.Tabulate.{joined, bytesOf, nodeRecords, allAttrs, attrRecords, allBytes, tabulate}
+use Rattle.table.specs.Tabulate.{joined, bytesOf, allBytes, tabulate}
 use Rattle.table.specs.Fits.{attrTotal, byteTotal, Narrow, Widths, Fits}
-use Rattle.table.proofs.Parse.{parse-at, parse-range, reach-most}
-use Rattle.table.proofs.Lawful.{Formed, form, parse-levels}
+use Rattle.table.proofs.Parse.{parse-at}
+use Rattle.table.proofs.Lawful.{form, parse-levels}
 use Rattle.table.proofs.Round.{size-flatten, rows-of-tree, tree-of-rows}
-use Rattle.table.proofs.Accepted.{Accepted, accepted, laid, length-rows-of, table-formed, table-texts, table-kept}
-use Rattle.table.proofs.Tabulated.{tabulated, length-part, length-attrs, attr-in}
-use Rattle.table.proofs.Reread.{attrCount, rootEmpty, RowsFit, reread, length-all-attrs}
-
-both : (a b : Bool) → a ≡ true → b ≡ true → (a && b) ≡ true
-both true b e g = g
-both false b e g = e
+use Rattle.table.proofs.Accepted.{Accepted, laid, length-rows-of, table-formed, table-kept}
+use Rattle.table.proofs.Tabulated.{tabulated}
+use Rattle.table.proofs.Reread.{attrCount, RowsFit, reread, length-all-attrs}
 
 -- counts over rows one after the other
 attr-count-append : (xs ys : List Row) → attrCount (xs ++ ys) ≡ attrCount xs + attrCount ys
@@ -82,8 +74,8 @@ bare-row Element d c a h = refl
 steps-flatten : (t : Forest) (d m : ℕ) (ys : List Row) → 1 ≤ d → d ≤ m → Inner t → Plain t → d + levels t ≤ 63 → ((n : ℕ) → d ≤ n → steps n ys ≡ true) → steps m (flatten d t ++ ys) ≡ true
 steps-flatten none d m ys l u i p h f = f m u
 steps-flatten (node q k c a kids rest) d m ys l u i p h f =
-    both (leb 1 d && (leb d m && (leb d 62 && (not (isDocument k) && bare x)))) (steps (reach x) ((flatten (suc d) kids ++ flatten d rest) ++ ys))
-    (both (leb 1 d) _ (le-leb 1 d l) (both (leb d m) _ (le-leb d m u) (both (leb d 62) _ (le-leb d 62 (omega arith)) (both (not (isDocument k)) (bare x) (ap not (i .0)) (bare-row k d c a (p .0))))))
+    and-from (leb 1 d && (leb d m && (leb d 62 && (not (isDocument k) && bare x)))) (steps (reach x) ((flatten (suc d) kids ++ flatten d rest) ++ ys))
+    (and-from (leb 1 d) _ (le-leb 1 d l) (and-from (leb d m) _ (le-leb d m u) (and-from (leb d 62) _ (le-leb d 62 (omega arith)) (and-from (not (isDocument k)) (bare x) (ap not (i .0)) (bare-row k d c a (p .0))))))
     (ap (steps (reach x)) (append-assoc (flatten (suc d) kids) (flatten d rest) ys) ∙ go k refl (i .1) (λ n v. steps-flatten rest d n ys l v (i .3) (p .2) (omega arith) f) (λ v. steps-flatten kids (suc d) (suc d) (flatten d rest ++ ys) (omega arith) (omega arith) (i .2) (p .1) (omega arith) (λ n w. v n (omega arith))))
   where
     x : Row
@@ -134,8 +126,8 @@ rows-fit (node m k c a kids rest) h =
     ∙ steps-flatten kids 1 1 [] (omega arith) (omega arith) (law .inner) (law .plain .1) (omega arith) (λ n l. refl) in
     record {
       shape =
-          both (eqb 0 0 && (isDocument k && (bare x && (leb (suc (length more)) 4096 && leb (total (x ∷ more)) 131072)))) (steps (reach x) more)
-          (both (isDocument k) _ doc (both (bare x) _ (bare-row k 0 c a (law .plain .0)) (both (leb (suc (length more)) 4096) _ (le-leb _ _ (omega arith)) (le-leb (total (x ∷ more)) 131072 (omega arith)))))
+          and-from (eqb 0 0 && (isDocument k && (bare x && (leb (suc (length more)) 4096 && leb (total (x ∷ more)) 131072)))) (steps (reach x) more)
+          (and-from (isDocument k) _ doc (and-from (bare x) _ (bare-row k 0 c a (law .plain .0)) (and-from (leb (suc (length more)) 4096) _ (le-leb _ _ (omega arith)) (le-leb (total (x ∷ more)) 131072 (omega arith)))))
           next;
       root = h .empty;
       texts = formed-flatten (node m k c a kids rest) 0 (law .formed);

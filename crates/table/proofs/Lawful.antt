@@ -1,26 +1,21 @@
 -- The tree of rows keeps the law of a page.
 use mathlib.Core.Path.{_≡_, refl, sym, ap, subst, _∙_}
 use mathlib.Core.List.{List, [], _∷_}
-use mathlib.Core.Bool.{Bool, true, false, cond, not, _&&_, _||_}
+use mathlib.Core.Bool.{Bool, true, false, cond, _||_}
 use mathlib.Core.Logic.{_⊎_, inl, inr}
-use Prim.Native.Nat.{ℕ, zero, suc, _+_, _-_, _≤_, _<_, max}
+use Prim.Native.Nat.{ℕ, suc, _+_, _-_, _≤_, _<_}
 use native.Mathlib.Omega.{arith}
 use lib.Dec.{eqb, ltb, leb}
-use lib.ListN.{length, take, drop, getD, length-take}
-use Rattle.std.proofs.shelf.Tests.{eqb-true, eqb-false, eq-eqb, ne-eqb, lt-ltb, le-ltb, leb-true, both-ways, or-parts, or-left, or-right, or-cases, or-from, and-parts, cases-bool, cases-eq, not-true, cases-order, cond-true, cond-false}
-use Rattle.std.specs.declared.option.Option.{Option}
-use Rattle.std.specs.declared.option.Option.the-variants.{Some, None}
+use lib.ListN.{length}
+use Rattle.std.proofs.shelf.Tests.{eqb-true, lt-ltb, le-ltb, leb-true, both-ways, and-parts, cases-order, cond-true, cond-false}
 use Rattle.page.specs.declared.kind.NodeKind.{NodeKind}
 use Rattle.page.specs.declared.kind.NodeKind.the-variants.{Document, Doctype, Text, Comment, Element}
-use Rattle.page.specs.Forest.{Forest, none, node, orElse, find, has, headOf, kidsOf, restOf, size, texts, levels, among, parentIn}
+use Rattle.page.specs.Forest.{none, headOf, restOf, texts, levels}
 use Rattle.page.specs.Kinds.{isElement, isDocument, ifText}
-use Rattle.page.specs.Kept.{Unique, Below, Plain, Inner, WellFormed, Kept}
+use Rattle.page.specs.Kept.{Below, Plain, Inner, WellFormed, Kept}
 use Rattle.std.specs.Options.{isSome}
-use Rattle.table.specs.Rows.{Row, flatten, parse, isParent, reach, empty, bare, steps, total, formed, RowsFormed}
-use lib.Seq.{drop-cons}
-use Rattle.std.proofs.shelf.Lists.{drop-all}
-use native.Mathlib.Numerals.{add-one}
-use Rattle.table.proofs.Parse.{parse-at, parse-skip, parse-end, parse-range, parse-unique, Step, step, reach-most}
+use Rattle.table.specs.Rows.{Row, parse, isParent, reach, empty, bare, steps, total, formed, RowsFormed}
+use Rattle.table.proofs.Parse.{parse-at, parse-skip, parse-end, parse-unique, Step, step}
 
 -- nothing stands beside the root
 pub parse-alone : (xs : List Row) (m i : ℕ) → steps m xs ≡ true → parse i 0 xs ≡ none

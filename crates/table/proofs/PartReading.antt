@@ -2,19 +2,18 @@
 use mathlib.Core.Path.{_≡_, refl, sym, ap, _∙_}
 use mathlib.Core.Bool.{true, false}
 use mathlib.Core.List.{List, [], _∷_}
-use Prim.Native.Nat.{ℕ, zero, suc, _+_, _≤_, _<_}
+use Prim.Native.Nat.{ℕ, zero, suc, _+_, _<_}
 use native.Mathlib.Omega.{arith}
-use lib.Dec.{ltb}
 use lib.ListN.{length, getD}
 use Rattle.std.specs.Options.{isSome}
-use Rattle.std.specs.declared.option.Option.the-variants.{Some, None}
+use Rattle.std.specs.declared.option.Option.the-variants.{Some}
 use Rattle.std.specs.shelf.Maps.{nth}
 use Rattle.std.proofs.shelf.Tests.{both-ways, ltb-true}
 use Rattle.page.specs.declared.kind.Part.{Part}
 use Rattle.page.specs.declared.kind.Part.the-variants.{Content, Name, Value}
 use Rattle.page.specs.Forest.{find, countOf, partOf, lengthIn, byteIn}
 use Rattle.page.proofs.Parts.{has-name, has-value, part-has, byte-part}
-use Rattle.table.specs.Table.{Table, nodeAt, attrAt, part, treeOf}
+use Rattle.table.specs.Table.{Table, nodeAt, attrAt, treeOf}
 use Rattle.table.proofs.Accepted.{Accepted, laid}
 use Rattle.table.proofs.Tabulated.{length-part, length-attrs, attr-in}
 use Rattle.table.proofs.Reading.{found, inside, part-there, name-there, value-there}

@@ -1,27 +1,21 @@
 -- Where the node of a row stands, and what stands under and after it.
-use mathlib.Core.Path.{_≡_, refl, sym, ap, subst, _∙_}
+use mathlib.Core.Path.{_≡_, refl, sym, ap, _∙_}
 use mathlib.Core.List.{List, [], _∷_}
-use mathlib.Core.Bool.{Bool, true, false, cond, not, _&&_, _||_}
+use mathlib.Core.Bool.{Bool, true, false, _||_}
 use mathlib.Core.Logic.{_⊎_, inl, inr}
-use Prim.Native.Nat.{ℕ, zero, suc, _+_, _-_, _≤_, _<_, max}
+use Prim.Native.Nat.{ℕ, zero, suc, _+_, _-_, _≤_, _<_}
 use native.Mathlib.Omega.{arith}
-use lib.Dec.{eqb, ltb, leb}
-use lib.ListN.{length, take, drop, getD, length-take}
-use Rattle.std.proofs.shelf.Tests.{eqb-true, eqb-false, eq-eqb, ne-eqb, lt-ltb, le-ltb, leb-true, both-ways, or-parts, or-left, or-right, or-cases, or-from, and-parts, cases-bool, cases-eq, not-true, cases-order, cond-true, cond-false}
-use Rattle.std.specs.declared.option.Option.{Option}
+use lib.Dec.{eqb}
+use lib.ListN.{length, drop, getD}
+use Rattle.std.proofs.shelf.Tests.{eq-eqb, both-ways, or-left, or-right, cases-eq, cases-order, cond-true}
 use Rattle.std.specs.declared.option.Option.the-variants.{Some, None}
-use Rattle.page.specs.declared.kind.NodeKind.{NodeKind}
-use Rattle.page.specs.declared.kind.NodeKind.the-variants.{Document, Doctype, Text, Comment, Element}
-use Rattle.page.specs.Forest.{Forest, none, node, orElse, find, has, headOf, kidsOf, restOf, size, texts, levels, among, parentIn}
-use Rattle.page.specs.Kinds.{isElement, isDocument, ifText}
-use Rattle.page.specs.Kept.{Unique, Below, Plain, Inner, Kept}
-use Rattle.page.proofs.Find.{find-under, find-beside, find-first}
-use Rattle.table.specs.Rows.{Row, flatten, parse, isParent, reach, empty, bare, steps, total, formed, blank}
+use Rattle.page.specs.Forest.{none, node, find, has, among, parentIn}
+use Rattle.table.specs.Rows.{Row, parse, reach, steps, formed, blank}
 use lib.Seq.{drop-cons}
 use Rattle.std.proofs.shelf.Lists.{drop-all}
 use native.Mathlib.Numerals.{add-one}
 use Rattle.page.proofs.Parent.{parent-child}
-use Rattle.table.proofs.Parse.{parse-at, parse-skip, parse-end, parse-range, parse-unique, parse-all, find-parse, Step, step, reach-most}
+use Rattle.table.proofs.Parse.{parse-at, parse-skip, parse-end, parse-range, parse-unique, parse-all, find-parse, step, reach-most}
 use Rattle.table.proofs.Lawful.{Formed, form}
 
 -- every record is a node, and is found at its place

@@ -1,24 +1,23 @@
 -- What the tree of accepted records has at each node: its parts and its relatives.
-use mathlib.Core.Path.{_≡_, refl, sym, ap, subst, _∙_}
-use mathlib.Core.List.{List, [], _∷_}
-use mathlib.Core.Bool.{Bool, true, false}
+use mathlib.Core.Path.{_≡_, refl, sym, ap, _∙_}
+use mathlib.Core.List.{List}
+use mathlib.Core.Bool.{true, false}
 use mathlib.Core.Logic.{_⊎_, inl, inr}
-use Prim.Native.Nat.{ℕ, zero, suc, _+_, _-_, _*_, _≤_, _<_}
+use Prim.Native.Nat.{ℕ, zero, suc, _+_, _-_, _≤_, _<_}
 use native.Mathlib.Omega.{arith}
 use lib.ListN.{length, getD, drop}
-use Rattle.std.specs.declared.option.Option.{Option}
 use Rattle.std.specs.declared.option.Option.the-variants.{Some, None}
 use Rattle.std.specs.Options.{isSome}
 use Rattle.std.specs.shelf.Maps.{nth}
 use lib.Dec.{ltb}
 use Rattle.std.proofs.shelf.Tests.{cases-order, cases-lt, both-ways, lt-ltb, le-ltb}
 use Rattle.page.specs.declared.kind.Part.{Part}
-use Rattle.page.specs.declared.kind.Part.the-variants.{Content, Name, Value}
+use Rattle.page.specs.declared.kind.Part.the-variants.{Name, Value}
 use Rattle.page.specs.Forest.{Forest, none, node, find, has, headOf, kidsOf, restOf, parentIn, partOf, partIn, nameIn, valueIn}
 use Rattle.page.proofs.Find.{find-absent}
 use Rattle.page.proofs.Parent.{parent-absent}
 use Rattle.table.specs.Rows.{Row, parse, formed, blank, Numbered}
-use Rattle.table.specs.Table.{Table, nodeAt, attrAt, part, kindWith, attrOf, attrsFrom, rowAt, rowsFrom, rowsOf, treeOf}
+use Rattle.table.specs.Table.{Table, nodeAt, part, kindWith, attrOf, attrsFrom, rowAt, rowsFrom, rowsOf, treeOf}
 use Rattle.table.specs.Links.{depthAt}
 use Rattle.table.proofs.Places.{node-at, not-there, parse-has, head-end, head-here, head-skip, head-stop, formed-next, parent-at, parent-root}
 use Rattle.table.proofs.Accepted.{Accepted, table-formed, table-kept, length-rows-of}

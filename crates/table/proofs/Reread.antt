@@ -7,7 +7,7 @@ use Prim.Native.Nat.{ℕ, zero, suc, _+_, _-_, _≤_, _<_}
 use native.Mathlib.Omega.{arith}
 use lib.Dec.{eqb, leb}
 use lib.ListN.{length, length-append}
-use Rattle.std.proofs.shelf.Tests.{eq-eqb, le-leb, cases-eq, cond-false, ne-eqb, both-ways, or-left, or-right}
+use Rattle.std.proofs.shelf.Tests.{eq-eqb, le-leb, cases-eq, cond-false, ne-eqb, both-ways, or-left, or-right, and-from}
 use Rattle.unicode.specs.Table.{wellFormed}
 use Rattle.page.specs.declared.kind.NodeKind.{NodeKind}
 use Rattle.page.specs.declared.kind.NodeKind.the-variants.{Document, Doctype, Text, Comment, Element}
@@ -43,16 +43,12 @@ pub record RowsFit (xs : List Row) : Type 0 where
   pub attrs : attrCount xs ≤ 8192
   pub bytes : length (allBytes xs) ≤ 131072
 
-both : (a b : Bool) → a ≡ true → b ≡ true → (a && b) ≡ true
-both true b e g = g
-both false b e g = e
-
 each-all : (t : ℕ → Bool) (n : ℕ) → ((q : ℕ) → q < n → t q ≡ true) → each n t ≡ true
 each-all t zero h = refl
-each-all t (suc n) h = both (t n) (each n t) (h n (omega arith)) (each-all t n (λ q l. h q (omega arith)))
+each-all t (suc n) h = and-from (t n) (each n t) (h n (omega arith)) (each-all t n (λ q l. h q (omega arith)))
 
 seven : (a b c d e g h : Bool) → a ≡ true → b ≡ true → c ≡ true → d ≡ true → e ≡ true → g ≡ true → h ≡ true → (a && (b && (c && (d && (e && (g && h)))))) ≡ true
-seven a b c d e g h p1 p2 p3 p4 p5 p6 p7 = both a _ p1 (both b _ p2 (both c _ p3 (both d _ p4 (both e _ p5 (both g h p6 p7)))))
+seven a b c d e g h p1 p2 p3 p4 p5 p6 p7 = and-from a _ p1 (and-from b _ p2 (and-from c _ p3 (and-from d _ p4 (and-from e _ p5 (and-from g h p6 p7)))))
 
 pick : (P : ℕ → Type 0) (m q : ℕ) → m ≤ q → (q ≡ m) ⊎ (q ≡ m → ⊥) → P m → (suc m ≤ q → P q) → P q
 pick P m q c (inl e) here there = subst P (sym e) here
@@ -119,7 +115,7 @@ inner : (d p : ℕ) → d ≤ suc p → (leb d p || (eqb d (p + 1) && true)) ≡
 inner d p l = go (cases-eq d (p + 1))
   where
     go : (d ≡ p + 1) ⊎ (d ≡ p + 1 → ⊥) → (leb d p || (eqb d (p + 1) && true)) ≡ true
-    go (inl e) = or-right (leb d p) _ (both (eqb d (p + 1)) true (eq-eqb d (p + 1) e) refl)
+    go (inl e) = or-right (leb d p) _ (and-from (eqb d (p + 1)) true (eq-eqb d (p + 1) e) refl)
     go (inr e) = leaf d p _ (omega arith)
 
 near : (k : NodeKind) (d p : ℕ) → d ≤ cond (isParent k) (suc p) p → (leb d p || (eqb d (p + 1) && isParentCode (code k))) ≡ true
@@ -165,9 +161,9 @@ module _ (t : Table) where
       let z : suc j ≡ x .first + suc m = omega arith in
       let y : m + suc (length more) ≡ suc m + length more = omega arith in
       let start : attrAt t j .start ≡ attrStart t x m = ap (λ (r : AttrRecord). r .start) rec ∙ sym e in
-      let ok-here : attrOk t x m ≡ true = both (eqb (attrAt t j .start) (attrStart t x m)) (leb (attrEnd t j) (length (t .bytes))) (eq-eqb _ _ start) (le-leb _ _ (omega arith)) in
+      let ok-here : attrOk t x m ≡ true = and-from (eqb (attrAt t j .start) (attrStart t x m)) (leb (attrEnd t j) (length (t .bytes))) (eq-eqb _ _ start) (le-leb _ _ (omega arith)) in
       let formed-here : attrFormed t j ≡ true =
-      both (wellFormed (attrOf t j .0)) (wellFormed (attrOf t j .1)) (ap (λ (k : List ℕ × List ℕ). wellFormed (k .0)) one ∙ fit .0) (ap (λ (k : List ℕ × List ℕ). wellFormed (k .1)) one ∙ fit .1) in
+      and-from (wellFormed (attrOf t j .0)) (wellFormed (attrOf t j .1)) (ap (λ (k : List ℕ × List ℕ). wellFormed (k .0)) one ∙ fit .0) (ap (λ (k : List ℕ × List ℕ). wellFormed (k .1)) one ∙ fit .1) in
       record {
         same = (λ q. one q ∷ attrsFrom t (z q) (length more)) ∙ ap (λ k. a ∷ k) (r .same);
         ok = λ q c d. pick (λ k. attrOk t x k ≡ true) m q c (cases-eq q m) ok-here (λ (h : suc m ≤ q). r .ok q h (omega arith));
@@ -236,7 +232,7 @@ module _ (t : Table) where
             (le-leb _ _ (omega arith))
             (each-all (attrOk t r) (r .attrs) (λ q l. ar .ok q (omega arith) (omega arith)));
         formed =
-            both (wellFormed (part t (r .start) (r .len))) (each (r .attrs) (λ k. attrFormed t (r .first + k)))
+            and-from (wellFormed (part t (r .start) (r .len))) (each (r .attrs) (λ k. attrFormed t (r .first + k)))
             ((λ q. wellFormed (part t (es q) (el q))) ∙ (ap wellFormed content ∙ text))
             (each-all (λ k. attrFormed t (r .first + k)) (r .attrs) (λ q l. ar .formed q (omega arith) (omega arith)));
         next =
@@ -256,7 +252,7 @@ module _ (t : Table) where
   rows-read [] i a b prev ek ed h fit st =
       let aa = st .all-attrs in
       let bb = st .all-bytes in
-      (both (endsOk t (suc i)) true (both (eqb (attrsBefore t (suc i)) (length (t .attrs))) (eqb (bytesBefore t (suc i)) (length (t .bytes))) (eq-eqb _ _ (st .before-attrs ∙ omega arith)) (eq-eqb _ _ (st .before-bytes ∙ omega arith))) refl, refl)
+      (and-from (endsOk t (suc i)) true (and-from (eqb (attrsBefore t (suc i)) (length (t .attrs))) (eqb (bytesBefore t (suc i)) (length (t .bytes))) (eq-eqb _ _ (st .before-attrs ∙ omega arith)) (eq-eqb _ _ (st .before-bytes ∙ omega arith))) refl, refl)
   rows-read (x ∷ xs) i a b prev ek ed h fit st =
       let s = step (reach prev) x xs h in
       let doc : isDocument (x .kind) ≡ true → x .content ≡ [] = λ e. absurd (both-ways (isDocument (x .kind)) (s .inner) e) in
@@ -266,13 +262,13 @@ module _ (t : Table) where
       let one : suc i - 1 ≡ i = omega arith in
       let kind : kindOk t (suc i) ≡ true = cond-false (eqb (suc i) 0) (eqb (n .kind) 0) (leb 1 (n .kind) && leb (n .kind) 4) off ∙ (ap (λ k. leb 1 k && leb k 4) (r .kind) ∙ later-code (x .kind) (s .inner)) in
       let tail : (d p k : ℕ) → Bool = λ d p k. leb 1 d && (leb d 62 && (leb d p || (eqb d (p + 1) && isParentCode k))) in
-      let deep : tail (x .depth) (prev .depth) (code (prev .kind)) ≡ true = both (leb 1 (x .depth)) _ (le-leb _ _ (s .low)) (both (leb (x .depth) 62) _ (le-leb _ _ (s .flat)) (near (prev .kind) (x .depth) (prev .depth) (s .high))) in
+      let deep : tail (x .depth) (prev .depth) (code (prev .kind)) ≡ true = and-from (leb 1 (x .depth)) _ (le-leb _ _ (s .low)) (and-from (leb (x .depth) 62) _ (le-leb _ _ (s .flat)) (near (prev .kind) (x .depth) (prev .depth) (s .high))) in
       let depth : depthOk t (suc i) ≡ true =
       cond-false (eqb (suc i) 0) (eqb (n .depth) 0) (tail (n .depth) (nodeAt t (suc i - 1) .depth) (nodeAt t (suc i - 1) .kind)) off
       ∙ (ap (λ q. tail (n .depth) (nodeAt t q .depth) (nodeAt t q .kind)) one ∙ ((λ q. tail (r .depth q) (ed q) (ek q)) ∙ deep)) in
       let more = rows-read xs (suc i) (a + length (x .attrs)) (b + length (bytesOf x)) x (r .kind) (r .depth) (s .next) (fit .2) (r .next) in (
         granted-join (answer t) (ofNode (suc i)) (ofNodes (suc (suc i)) (length xs))
-            (both (kindOk t (suc i)) _ kind (both (depthOk t (suc i)) _ depth (both (layoutOk t (suc i)) _ (r .layout) (both (formedOk t (suc i)) true (r .formed) refl)))) (more .0),
+            (and-from (kindOk t (suc i)) _ kind (and-from (depthOk t (suc i)) _ depth (and-from (layoutOk t (suc i)) _ (r .layout) (and-from (formedOk t (suc i)) true (r .formed) refl)))) (more .0),
         (λ q. r .is q ∷ more .1 q),
       )
 
@@ -283,12 +279,12 @@ module _ (t : Table) where
       let r = row-read x xs 0 0 0 (fit .texts .0) (fit .texts .1) (g .plain) (λ e. fit .root) st in
       let more = rows-read xs 0 (0 + length (x .attrs)) (0 + length (bytesOf x)) x (r .kind) (r .depth) (g .next) (fit .texts .2) (r .next) in (
         granted-join (answer t) (ofNode 0) (ofNodes 1 (length xs))
-            (both (kindOk t 0) _ (eq-eqb _ _ (r .kind ∙ first-code (x .kind) (g .document))) (both (depthOk t 0) _ (eq-eqb _ _ (r .depth ∙ g .root)) (both (layoutOk t 0) _ (r .layout) (both (formedOk t 0) true (r .formed) refl)))) (more .0),
+            (and-from (kindOk t 0) _ (eq-eqb _ _ (r .kind ∙ first-code (x .kind) (g .document))) (and-from (depthOk t 0) _ (eq-eqb _ _ (r .depth ∙ g .root)) (and-from (layoutOk t 0) _ (r .layout) (and-from (formedOk t 0) true (r .formed) refl)))) (more .0),
         (λ q. r .is q ∷ more .1 q),
       )
 
-in-range : (s : Section) (n : ℕ) → least s ≤ n → n ≤ most s → inRange s n ≡ true
-in-range s n a b = both (leb (least s) n) (leb n (most s)) (le-leb (least s) n a) (le-leb n (most s) b)
+pub in-range : (s : Section) (n : ℕ) → least s ≤ n → n ≤ most s → inRange s n ≡ true
+in-range s n a b = and-from (leb (least s) n) (leb n (most s)) (le-leb (least s) n a) (le-leb n (most s) b)
 
 -- the records of rows that fit are accepted, and mean those rows
 pub reread : (xs : List Row) → RowsFit xs → (accepts (tabulate xs) ≡ true) × (rowsOf (tabulate xs) ≡ xs)
@@ -311,9 +307,9 @@ reread (x ∷ xs) fit =
       before-bytes = refl;
     } in
     let r = first-read t x xs fit st in (
-      both (inRange Nodes (length (t .nodes))) _ (in-range Nodes (length (t .nodes)) (omega arith) (omega arith))
-          (both (inRange Attributes (length (t .attrs))) _ (in-range Attributes (length (t .attrs)) (omega arith) (omega arith))
-          (both (inRange Bytes (length (t .bytes))) _ (in-range Bytes (length (t .bytes)) (omega arith) (omega arith))
+      and-from (inRange Nodes (length (t .nodes))) _ (in-range Nodes (length (t .nodes)) (omega arith) (omega arith))
+          (and-from (inRange Attributes (length (t .attrs))) _ (in-range Attributes (length (t .attrs)) (omega arith) (omega arith))
+          (and-from (inRange Bytes (length (t .bytes))) _ (in-range Bytes (length (t .bytes)) (omega arith) (omega arith))
           (ap (λ k. granted (answer t) (ofNodes 0 k)) ln ∙ r .0))),
       ap (rowsFrom t 0) ln ∙ r .1,
     )

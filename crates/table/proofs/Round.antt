@@ -1,17 +1,17 @@
 -- A tree and its rows are one.
 use mathlib.Core.Path.{_≡_, refl, sym, ap, subst, _∙_}
 use mathlib.Core.List.{List, [], _∷_, _++_, append-assoc, append-nil}
-use mathlib.Core.Bool.{Bool, true, false, cond, not, _&&_, _||_}
+use mathlib.Core.Bool.{true, false, cond}
 use mathlib.Core.Logic.{_⊎_, inl, inr}
-use Prim.Native.Nat.{ℕ, zero, suc, _+_, _-_, _≤_, _<_}
+use Prim.Native.Nat.{ℕ, suc, _+_, _≤_, _<_}
 use native.Mathlib.Omega.{arith}
-use lib.Dec.{eqb, ltb, leb}
+use lib.Dec.{ltb}
 use lib.ListN.{length, length-append}
 use Rattle.std.proofs.shelf.Tests.{both-ways, cases-order, cond-true, cond-false, lt-ltb, le-ltb}
 use Rattle.page.specs.Forest.{Forest, none, node, size}
 use Rattle.table.specs.Rows.{Row, flatten, parse, reach, steps, formed, Numbered}
 use Rattle.table.proofs.Parse.{parse-at, parse-skip, parse-end, step, Step, reach-most}
-use Rattle.table.proofs.Lawful.{form, Formed}
+use Rattle.table.proofs.Lawful.{form}
 
 pub size-flatten : (t : Forest) (d : ℕ) → length (flatten d t) ≡ size t
 size-flatten none d = refl

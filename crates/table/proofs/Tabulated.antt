@@ -1,16 +1,15 @@
 -- Accepted records are those of their rows.
 use mathlib.Core.Path.{_≡_, refl, sym, ap, _∙_}
-use mathlib.Core.List.{List, [], _∷_, _++_, append-assoc}
+use mathlib.Core.List.{_∷_, _++_, append-assoc}
 use mathlib.Core.Bool.{true}
-use Prim.Native.Nat.{ℕ, zero, suc, _+_, _-_, _≤_, _<_}
+use Prim.Native.Nat.{ℕ, zero, suc, _+_, _≤_, _<_}
 use native.Mathlib.Omega.{arith}
 use lib.Dec.{eqb}
-use lib.ListN.{length, getD, take, drop, length-take, length-drop, length-append, take-append-drop}
+use lib.ListN.{length, drop, length-take, length-drop, length-append, take-append-drop}
 use lib.Seq.{drop-cons}
 use Rattle.std.proofs.shelf.Lists.{drop-drop, drop-all}
 use Rattle.std.proofs.shelf.Tests.{and-parts, eqb-true, leb-true}
 use Rattle.page.specs.Kinds.{code}
-use Rattle.table.specs.Rows.{Row}
 use Rattle.table.specs.Table.{Table, nodeAt, attrAt, noNode, noAttr, part, kindWith, attrsFrom, rowAt, rowsFrom, rowsOf}
 use Rattle.table.specs.Checks.{attrOk, attrEnd, attrStart, attrsBefore, bytesBefore}
 use Rattle.table.specs.Tabulate.{joined, bytesOf, nodeRecords, attrRecords, allAttrs, allBytes, tabulate}

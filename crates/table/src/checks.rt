@@ -1,7 +1,8 @@
+// The checks of nodes, for records in any form. What stands before a node is read off the node before it, so each check is
+// local and the whole is linear.
 ghost use mathlib.Core.Path.{_≡_};
-ghost use Prim.Native.Nat.{ℕ, _+_, _-_, _*_, _^_, _<_, _≤_};
+ghost use Prim.Native.Nat.{_+_, _^_, _<_, _≤_};
 ghost use lib.ListN.{length};
-ghost use Rattle.table.specs.Table.{nodeAt, attrAt, part};
 ghost use Rattle.table.specs.Checks.{isParentCode, kindOk, depthOk, attrEnd, attrStart, attrsBefore, bytesBefore, attrOk, layoutOk, attrFormed, formedOk, endsOk, each, answer, firstNo, ofNode, ofNodes, refused};
 use crate::record::Check;
 use crate::record::NodeRecord;

@@ -1,3 +1,4 @@
+// A stored page as records in document order: the checks that they have to pass, and the tree that they mean.
 mod checks;
 mod record;
 mod records;

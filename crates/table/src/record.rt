@@ -1,3 +1,5 @@
+// The records of a stored page, its sections, and the checks of opening.
+
 // One node of a stored page: where its attributes and its content lie.
 #[derive(Clone, Copy)]
 pub struct NodeRecord {

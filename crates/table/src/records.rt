@@ -1,3 +1,4 @@
+// Reading records, in whatever form they lie.
 ghost use mathlib.Core.Path.{_≡_};
 ghost use lib.ListN.{length};
 ghost use Rattle.table.specs.Table.{Table, nodeAt, attrAt, part};

@@ -1,3 +1,4 @@
+// The numbers of sections and refusals.
 ghost use mathlib.Core.Path.{_≡_};
 ghost use Rattle.table.specs.Checks.{sectionNumber, number, recordOf, least, most};
 use crate::record::Check;

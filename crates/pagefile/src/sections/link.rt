@@ -1,7 +1,8 @@
+// Linking: parents, ends and the height, from the depths.
 ghost use mathlib.Core.Path.{_≡_};
 ghost use mathlib.Core.Bool.{true};
 ghost use Prim.Native.Nat.{ℕ, _+_, _<_, _≤_};
-ghost use lib.ListN.{length, getD};
+ghost use lib.ListN.{getD};
 ghost use Rattle.table.specs.Checks.{accepts};
 ghost use Rattle.table.specs.Links.{ParentOf, EndOf, deepest};
 ghost use Rattle.pagefile.specs.File.{tableOf};

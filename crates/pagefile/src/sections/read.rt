@@ -1,7 +1,7 @@
+// Reading the records of a file.
 ghost use mathlib.Core.Path.{_≡_};
-ghost use Prim.Native.Nat.{ℕ, _+_, _*_, _^_, _<_, _≤_};
+ghost use Prim.Native.Nat.{_<_};
 ghost use denote.Ref.{now};
-ghost use lib.ListN.{length};
 ghost use Rattle.pagefile.specs.File.{nodeIn, attrIn, tableOf};
 use super::Sections;
 use crate::fields::u16_at;

@@ -1,4 +1,4 @@
-use mathlib.Core.Path.{_≡_, refl}
+use mathlib.Core.Path.{refl}
 use Rattle.std.specs.Written.{digits}
 use Rattle.pagefile.specs.File.{u16At, u32At}
 use Rattle.examples.specs.Pages.{Texts, Pages, Refused}

@@ -1,12 +1,10 @@
-use mathlib.Core.Path.{_≡_, refl, sym, ap, _∙_}
-use mathlib.Core.Bool.{true}
-use mathlib.Core.List.{List, _++_, append-assoc, append-nil}
-use Prim.Native.Nat.{ℕ, _+_, _≤_}
+use mathlib.Core.Path.{_≡_, sym, ap, _∙_}
+use mathlib.Core.List.{_++_, append-assoc, append-nil}
+use Prim.Native.Nat.{ℕ}
 use native.Mathlib.Omega.{arith}
 use Rattle.std.specs.declared.option.Option.the-variants.{Some}
 use Rattle.std.specs.Of.Vec.{vec-items}
-use Rattle.page.specs.Forest.{Forest, none, node, find, has, headOf, kidsOf, restOf, levels}
-use Rattle.page.specs.Kept.{Kept}
+use Rattle.page.specs.Forest.{Forest, none, node, find, headOf, kidsOf, restOf, levels}
 use Rattle.page.proofs.Find.{find-first}
 use Rattle.page.proofs.Levels.{levels-root}
 use Rattle.render.specs.Render.{lines}

@@ -1,10 +1,7 @@
-use mathlib.Core.Path.{_≡_, refl, sym, ap, _∙_}
-use mathlib.Core.List.{List}
-use Prim.Native.Nat.{ℕ}
+use mathlib.Core.Path.{sym, ap, _∙_}
 use Rattle.std.specs.declared.result.Result.{Result}
 use Rattle.std.specs.declared.result.Result.the-variants.{Ok, Err}
 use Rattle.std.specs.Vec.{made}
-use Rattle.std.specs.declared.option.Option.the-variants.{None}
 use Rattle.render.specs.Render.{render}
 use Rattle.render.specs.Outline.{printed}
 use Rattle.render.proofs.text.outline.Needs as need

@@ -1,4 +1,4 @@
-use mathlib.Core.Path.{_≡_, sym, _∙_}
+use mathlib.Core.Path.{sym, _∙_}
 use Rattle.table.specs.Checks.{attrOk}
 use Rattle.table.proofs.Each.{each-false, each-more}
 use Rattle.table.proofs.checks.attrs_ok.Needs as need

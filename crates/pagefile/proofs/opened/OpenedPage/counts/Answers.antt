@@ -1,5 +1,4 @@
-use mathlib.Core.Path.{_≡_, sym, ap, _∙_}
-use lib.ListN.{length}
+use mathlib.Core.Path.{sym, ap, _∙_}
 use Rattle.table.proofs.Accepted.{accepted}
 use Rattle.table.proofs.Fitting.{table-totals}
 use Rattle.pagefile.specs.File.{tableOf}

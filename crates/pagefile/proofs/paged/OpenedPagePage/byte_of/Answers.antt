@@ -1,10 +1,10 @@
-use mathlib.Core.Path.{_≡_, refl, sym, ap, subst, _∙_}
+use mathlib.Core.Path.{_≡_, sym, ap, subst, _∙_}
 use mathlib.Core.Bool.{true}
 use Prim.Native.Nat.{_+_, _<_}
 use native.Mathlib.Omega.{arith}
 use Rattle.std.specs.Options.{isSome}
 use Rattle.std.specs.declared.option.Option.the-variants.{Some}
-use Rattle.page.specs.declared.kind.Part.the-variants.{Content, Name, Value}
+use Rattle.page.specs.declared.kind.Part.the-variants.{Content}
 use lib.ListN.{getD}
 use Rattle.page.specs.Forest.{find, partOf, byteIn}
 use Rattle.table.specs.Table.{nodeAt, attrAt, part, treeOf}

@@ -1,5 +1,3 @@
-use mathlib.Core.Path.{_≡_, refl, sym, ap, _∙_}
-use native.Mathlib.Omega.{arith}
 use Rattle.table.proofs.Accepted.{accepted}
 use Rattle.pagefile.specs.File.{tableOf}
 use Rattle.table.proofs.Reading.{has-test}

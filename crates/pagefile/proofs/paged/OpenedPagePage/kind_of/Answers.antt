@@ -1,5 +1,4 @@
-use mathlib.Core.Path.{_≡_, refl, sym, ap, _∙_}
-use native.Mathlib.Omega.{arith}
+use mathlib.Core.Path.{sym, ap, _∙_}
 use Rattle.table.proofs.Accepted.{accepted}
 use Rattle.pagefile.specs.File.{tableOf}
 use Rattle.std.specs.declared.option.Option.the-variants.{Some}

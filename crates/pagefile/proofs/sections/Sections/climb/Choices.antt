@@ -1,7 +1,6 @@
 use mathlib.Core.Path.{_≡_}
-use Prim.Native.Nat.{ℕ, _+_, _<_, _≤_}
+use Prim.Native.Nat.{ℕ, _≤_}
 use lib.ListN.{getD}
-use Rattle.table.specs.Links.{depthAt}
 use Rattle.pagefile.specs.File.{tableOf}
 use Rattle.pagefile.proofs.Linking.{Climbed}
 use Rattle.pagefile.proofs.sections.Sections.climb.Given as given

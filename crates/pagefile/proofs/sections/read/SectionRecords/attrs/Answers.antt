@@ -1,4 +1,4 @@
-use mathlib.Core.Path.{_≡_, sym, ap, _∙_}
+use mathlib.Core.Path.{sym, ap, _∙_}
 use Rattle.pagefile.specs.File.{attrIn}
 use Rattle.pagefile.proofs.Listed.{length-listed}
 use Rattle.pagefile.proofs.sections.read.SectionRecords.attrs.Needs as need

@@ -1,4 +1,4 @@
-use mathlib.Core.Path.{_≡_, sym, ap, _∙_}
+use mathlib.Core.Path.{sym, ap, _∙_}
 use Rattle.pagefile.proofs.Sized.{sized, length-bytes}
 use Rattle.pagefile.proofs.sections.read.SectionRecords.bytes.Needs as need
 

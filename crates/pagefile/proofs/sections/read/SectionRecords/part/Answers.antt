@@ -3,7 +3,7 @@ use Prim.Native.Nat.{_+_, _*_}
 use native.Mathlib.Omega.{arith}
 use lib.ListN.{take, drop}
 use Rattle.table.specs.declared.record.Section.the-variants.{Bytes}
-use Rattle.pagefile.specs.File.{count, countAt}
+use Rattle.pagefile.specs.File.{countAt}
 use Rattle.pagefile.proofs.Cut.{cut}
 use Rattle.pagefile.proofs.sections.read.SectionRecords.part.Needs as need
 
