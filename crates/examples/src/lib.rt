@@ -1,7 +1,9 @@
 // Worked examples, each proved of the definitions that the contracts cite.
+mod joins;
 mod pages;
 mod scores;
 
+pub use joins::joined_base;
 pub use pages::document_file;
 pub use scores::exact_scores;
 pub use scores::greatest_of_two;

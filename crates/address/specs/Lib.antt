@@ -1,0 +1,5 @@
+pub mod Join
+pub mod Shaped
+pub mod Charset
+pub mod Refusal
+pub mod Answers

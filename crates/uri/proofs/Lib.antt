@@ -1,0 +1,14 @@
+pub mod Fronts
+pub mod Slashes
+pub mod Moves
+pub mod Rules
+pub mod Targets
+pub mod Turns
+pub mod Writes
+pub mod Splits
+pub mod Cases
+pub mod Keeps
+pub mod NoDots
+pub mod ReadBack
+pub mod Formed
+pub mod TargetLaws

@@ -1,0 +1,9 @@
+pub mod Bytes
+pub mod Components
+pub mod Dots
+pub mod Segments
+pub mod Resolve
+pub mod Laws
+pub mod Turn
+pub mod View
+pub mod Write
