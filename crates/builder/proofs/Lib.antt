@@ -1,0 +1,12 @@
+pub mod Snoc
+pub mod Depths
+pub mod Sound
+pub mod Adding
+pub mod Closing
+pub mod Attributing
+pub mod Granting
+pub mod Runs
+pub mod Law
+pub mod Rooms
+pub mod Begun
+pub mod Puts

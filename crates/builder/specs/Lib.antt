@@ -1,0 +1,9 @@
+pub mod Refusals
+pub mod State
+pub mod Events
+pub mod After
+pub mod Room
+pub mod Sound
+pub mod Stored
+pub mod Built
+pub mod Law

@@ -1,0 +1,4 @@
+pub mod Joins
+pub mod Bounds
+pub mod Scans
+pub mod Fills

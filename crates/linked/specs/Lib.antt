@@ -1,0 +1,5 @@
+pub mod Links
+pub mod Records
+pub mod Opening
+pub mod Opened
+pub mod Kept

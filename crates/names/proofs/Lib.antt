@@ -1,0 +1,4 @@
+pub mod Sames
+pub mod Occurs
+pub mod Attributes
+pub mod Amongs

@@ -1,0 +1,5 @@
+pub mod Names
+pub mod Tags
+pub mod Words
+pub mod Attrs
+pub mod Is

@@ -1,0 +1,4 @@
+pub mod Table
+pub mod Reading
+pub mod Trims
+pub mod Matching

@@ -1,0 +1,5 @@
+pub mod Space
+pub mod Held
+pub mod Trim
+pub mod Trimming
+pub mod Marks
