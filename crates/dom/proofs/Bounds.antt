@@ -117,10 +117,19 @@ small f r =
     let c : length (deepChars f) ≤ 131072 = omega (arith, chars-most f, r .texts) in
     let l : linkLength f ≤ 8388608 = omega (arith, links-most f, mul-le-mul-right (textLength f) (r .levels), mul-le-mul-left 64 t) in
     record {
-      text = omega arith; links = omega arith; chars = omega arith;
-      plain = omega (arith, hits-most Plain (deepChars f)); stop = omega (arith, hits-most AfterStop (deepChars f)); comma = omega (arith, hits-most AfterComma (deepChars f));
-      paragraphs = omega (arith, count-most P f, r .size); images = omega (arith, count-most Img f, r .size); items = omega (arith, count-most Li f, r .size);
-      inputs = omega (arith, count-most Input f, r .size); embeds = omega (arith, count-most Embed f, r .size); long = omega (arith, long-most f, r .size) }
+      text = omega arith;
+      links = omega arith;
+      chars = omega arith;
+      plain = omega (arith, hits-most Plain (deepChars f));
+      stop = omega (arith, hits-most AfterStop (deepChars f));
+      comma = omega (arith, hits-most AfterComma (deepChars f));
+      paragraphs = omega (arith, count-most P f, r .size);
+      images = omega (arith, count-most Img f, r .size);
+      items = omega (arith, count-most Li f, r .size);
+      inputs = omega (arith, count-most Input f, r .size);
+      embeds = omega (arith, count-most Embed f, r .size);
+      long = omega (arith, long-most f, r .size);
+    }
 
 -- an element over such a forest
 pub small-element : (t : Tag) (f : Forest) → Room f → Small (elementOf t (underOf f))
@@ -129,10 +138,19 @@ small-element u f r =
     let c : length (deepChars f) ≤ 131072 = omega (arith, chars-most f, r .texts) in
     let l : linkLength f + textLength f ≤ 8388608 = omega (arith, links-most f, mul-le-mul-right (textLength f) (r .levels), mul-le-mul-left 64 t) in
     record {
-      text = omega arith; links = omega (arith, cond-most (is Anchor u) (textLength f)); chars = omega arith;
-      plain = omega (arith, hits-most Plain (deepChars f)); stop = omega (arith, hits-most AfterStop (deepChars f)); comma = omega (arith, hits-most AfterComma (deepChars f));
-      paragraphs = omega (arith, count-most P f, r .size, bit-most (is P u)); images = omega (arith, count-most Img f, r .size, bit-most (is Img u)); items = omega (arith, count-most Li f, r .size, bit-most (is Li u));
-      inputs = omega (arith, count-most Input f, r .size, bit-most (is Input u)); embeds = omega (arith, count-most Embed f, r .size, bit-most (is Embed u)); long = omega arith }
+      text = omega arith;
+      links = omega (arith, cond-most (is Anchor u) (textLength f));
+      chars = omega arith;
+      plain = omega (arith, hits-most Plain (deepChars f));
+      stop = omega (arith, hits-most AfterStop (deepChars f));
+      comma = omega (arith, hits-most AfterComma (deepChars f));
+      paragraphs = omega (arith, count-most P f, r .size, bit-most (is P u));
+      images = omega (arith, count-most Img f, r .size, bit-most (is Img u));
+      items = omega (arith, count-most Li f, r .size, bit-most (is Li u));
+      inputs = omega (arith, count-most Input f, r .size, bit-most (is Input u));
+      embeds = omega (arith, count-most Embed f, r .size, bit-most (is Embed u));
+      long = omega arith;
+    }
 
 pub bounded : (f : Forest) → Room f → Bounded (underOf f)
 bounded f r =
@@ -174,7 +192,16 @@ small-node (node m k c a kids rest) r =
 -- what comes first is no larger than the whole
 pub small-left : (u v : Under) → Small (plus u v) → Small u
 small-left u v s = record {
-  text = omega (arith, s .text); links = omega (arith, s .links); chars = omega (arith, s .chars);
-  plain = omega (arith, s .plain); stop = omega (arith, s .stop); comma = omega (arith, s .comma);
-  paragraphs = omega (arith, s .paragraphs); images = omega (arith, s .images); items = omega (arith, s .items);
-  inputs = omega (arith, s .inputs); embeds = omega (arith, s .embeds); long = omega (arith, s .long) }
+  text = omega (arith, s .text);
+  links = omega (arith, s .links);
+  chars = omega (arith, s .chars);
+  plain = omega (arith, s .plain);
+  stop = omega (arith, s .stop);
+  comma = omega (arith, s .comma);
+  paragraphs = omega (arith, s .paragraphs);
+  images = omega (arith, s .images);
+  items = omega (arith, s .items);
+  inputs = omega (arith, s .inputs);
+  embeds = omega (arith, s .embeds);
+  long = omega (arith, s .long);
+}

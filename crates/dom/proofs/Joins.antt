@@ -113,25 +113,63 @@ pub record Alike (u v : Under) : Type 0 where
 
 pub alike : {u v : Under} → Alike u v → u ≡ v
 alike e = λ i. record {
-  text = e .text i; links = e .links i; chars = e .chars i; marks = e .marks i; block = e .block i;
-  paragraphs = e .paragraphs i; images = e .images i; items = e .items i; inputs = e .inputs i; embeds = e .embeds i; long = e .long i }
+  text = e .text i;
+  links = e .links i;
+  chars = e .chars i;
+  marks = e .marks i;
+  block = e .block i;
+  paragraphs = e .paragraphs i;
+  images = e .images i;
+  items = e .items i;
+  inputs = e .inputs i;
+  embeds = e .embeds i;
+  long = e .long i;
+}
 
 pub plus-assoc : (u v w : Under) → plus (plus u v) w ≡ plus u (plus v w)
 plus-assoc u v w = alike (record {
-  text = omega arith; links = omega arith; chars = omega arith;
+  text = omega arith;
+  links = omega arith;
+  chars = omega arith;
   marks = both-assoc (u .marks) (v .marks) (w .marks);
   block = or-assoc (u .block) (v .block) (w .block);
-  paragraphs = omega arith; images = omega arith; items = omega arith; inputs = omega arith; embeds = omega arith; long = omega arith })
+  paragraphs = omega arith;
+  images = omega arith;
+  items = omega arith;
+  inputs = omega arith;
+  embeds = omega arith;
+  long = omega arith;
+})
 
 pub plus-none : (u : Under) → plus u (underOf none) ≡ u
 plus-none u = alike (record {
-  text = omega arith; links = omega arith; chars = omega arith; marks = both-none (u .marks); block = or-false (u .block);
-  paragraphs = omega arith; images = omega arith; items = omega arith; inputs = omega arith; embeds = omega arith; long = omega arith })
+  text = omega arith;
+  links = omega arith;
+  chars = omega arith;
+  marks = both-none (u .marks);
+  block = or-false (u .block);
+  paragraphs = omega arith;
+  images = omega arith;
+  items = omega arith;
+  inputs = omega arith;
+  embeds = omega arith;
+  long = omega arith;
+})
 
 pub none-plus : (u : Under) → plus (underOf none) u ≡ u
 none-plus u = alike (record {
-  text = omega arith; links = omega arith; chars = omega arith; marks = none-both (u .marks); block = refl;
-  paragraphs = omega arith; images = omega arith; items = omega arith; inputs = omega arith; embeds = omega arith; long = omega arith })
+  text = omega arith;
+  links = omega arith;
+  chars = omega arith;
+  marks = none-both (u .marks);
+  block = refl;
+  paragraphs = omega arith;
+  images = omega arith;
+  items = omega arith;
+  inputs = omega arith;
+  embeds = omega arith;
+  long = omega arith;
+})
 
 -- the figures of a node with its own characters and its tag, and of what follows it
 abbrev sumOf : List ℕ → Tag → Forest → Forest → Under
@@ -146,7 +184,8 @@ sumOf cs t kids rest = record {
   items = bit (is Li t) + (countTag Li kids + countTag Li rest);
   inputs = bit (is Input t) + (countTag Input kids + countTag Input rest);
   embeds = bit (is Embed t) + (countTag Embed kids + countTag Embed rest);
-  long = bit (leb 20 (trimmedBytes cs)) + longTexts rest }
+  long = bit (leb 20 (trimmedBytes cs)) + longTexts rest;
+}
 
 sum-parts : (cs : List ℕ) (t : Tag) (kids rest : Forest) → sumOf cs t kids rest ≡ plus (plus (leafOf cs) (elementOf t (underOf kids))) (underOf rest)
 sum-parts cs t kids rest = alike (record {
@@ -155,8 +194,13 @@ sum-parts cs t kids rest = alike (record {
   chars = omega (arith, length-append cs (deepChars kids ++ deepChars rest), length-append (deepChars kids) (deepChars rest));
   marks = sym (both-assoc (passesOf cs) (passesOf (deepChars kids)) (passesOf (deepChars rest)) ∙ (ap (both (passesOf cs)) (both-of (deepChars kids) (deepChars rest)) ∙ both-of cs (deepChars kids ++ deepChars rest)));
   block = sym (or-assoc (among blockTags t) (someTag blockTags kids) (someTag blockTags rest));
-  paragraphs = omega arith; images = omega arith; items = omega arith; inputs = omega arith; embeds = omega arith;
-  long = omega arith })
+  paragraphs = omega arith;
+  images = omega arith;
+  items = omega arith;
+  inputs = omega arith;
+  embeds = omega arith;
+  long = omega arith;
+})
 
 -- the figures of a forest are those of its first node and then of the rest
 pub parts : (m : ℕ) (k : NodeKind) (c : List ℕ) (a : List (List ℕ × List ℕ)) (kids rest : Forest) → underOf (node m k c a kids rest) ≡ plus (nodeOf (node m k c a kids rest) (underOf kids)) (underOf rest)

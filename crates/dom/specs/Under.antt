@@ -31,7 +31,8 @@ underOf f = record {
   items = countTag Li f;
   inputs = countTag Input f;
   embeds = countTag Embed f;
-  long = longTexts f }
+  long = longTexts f;
+}
 
 -- the figures of two forests, one after the other
 abbrev pub plus : Under → Under → Under
@@ -46,7 +47,8 @@ plus u v = record {
   items = u .items + v .items;
   inputs = u .inputs + v .inputs;
   embeds = u .embeds + v .embeds;
-  long = u .long + v .long }
+  long = u .long + v .long;
+}
 
 -- the figures of a text alone, by its characters
 abbrev pub leafOf : List ℕ → Under
@@ -61,7 +63,8 @@ leafOf cs = record {
   items = 0;
   inputs = 0;
   embeds = 0;
-  long = bit (leb 20 (trimmedBytes cs)) }
+  long = bit (leb 20 (trimmedBytes cs));
+}
 
 -- the figures of an element, by its tag and those of what is under it
 abbrev pub elementOf : Tag → Under → Under
@@ -76,7 +79,8 @@ elementOf t u = record {
   items = bit (is Li t) + u .items;
   inputs = bit (is Input t) + u .inputs;
   embeds = bit (is Embed t) + u .embeds;
-  long = 0 }
+  long = 0;
+}
 
 -- the figures of a node's own content: those of a text
 abbrev pub ownOf : NodeKind → List ℕ → Under

@@ -40,13 +40,14 @@ returns g c s =
       links = refl;
       chars = ap (λ m. m .chars) fed ∙ (run-chars cs _ (omega arith) ∙ (omega arith));
       marks = same-passes _ _
-        (passed (c .pass-of .result) _ (c .new-2 .result) _ cs (c .pass-of .ensures) (ap (λ m. m .plain) fed ∙ run-plain cs _) (c .new-2 .ensures .start) (c .new-2 .ensures .counts) short)
-        (passed (c .pass-of-2 .result) _ (c .new-3 .result) _ cs (c .pass-of-2 .ensures) (ap (λ m. m .stop) fed ∙ run-stop cs _) (c .new-3 .ensures .start) (c .new-3 .ensures .counts) short)
-        (passed (c .pass-of-3 .result) _ (c .new-4 .result) _ cs (c .pass-of-3 .ensures) (ap (λ m. m .comma) fed ∙ run-comma cs _) (c .new-4 .ensures .start) (c .new-4 .ensures .counts) short);
+          (passed (c .pass-of .result) _ (c .new-2 .result) _ cs (c .pass-of .ensures) (ap (λ m. m .plain) fed ∙ run-plain cs _) (c .new-2 .ensures .start) (c .new-2 .ensures .counts) short)
+          (passed (c .pass-of-2 .result) _ (c .new-3 .result) _ cs (c .pass-of-2 .ensures) (ap (λ m. m .stop) fed ∙ run-stop cs _) (c .new-3 .ensures .start) (c .new-3 .ensures .counts) short)
+          (passed (c .pass-of-3 .result) _ (c .new-4 .result) _ cs (c .pass-of-3 .ensures) (ap (λ m. m .comma) fed ∙ run-comma cs _) (c .new-4 .ensures .start) (c .new-4 .ensures .counts) short);
       block = refl;
       paragraphs = refl;
       images = refl;
       items = refl;
       inputs = refl;
       embeds = refl;
-      long = c .one-if-long .ensures ∙ ap (λ n. bit (leb 20 n)) (c .size .ensures ∙ (ap (λ m. m .trim .bytes .sum) fed ∙ (ap (λ m. m .bytes .sum) (run-trim cs _) ∙ trimmed .1))) })
+      long = c .one-if-long .ensures ∙ ap (λ n. bit (leb 20 n)) (c .size .ensures ∙ (ap (λ m. m .trim .bytes .sum) fed ∙ (ap (λ m. m .bytes .sum) (run-trim cs _) ∙ trimmed .1)));
+    })

@@ -19,11 +19,12 @@ loop-at-holds g t c =
     let p = c .args .p .now in
     let T = g .P·Page .tree p in
     let at = c .first-child-of-at .result in
-    let e = from-kids T (g .P·Page .kept p .unique) (c .args .n) at (c .first-child-of-at .ensures (c .pre)) in
-    (ap headOf e ∙ sym (c .first-child-of-at .ensures (c .pre)),
-    ap (λ u. plus u (underOf (from T at))) (c .none-sum .ensures) ∙ (none-plus (underOf (from T at)) ∙ ap underOf e),
-    ap (λ f. fillAll f (c .args .table .now)) e,
-    omega (arith, ap size e))
+    let e = from-kids T (g .P·Page .kept p .unique) (c .args .n) at (c .first-child-of-at .ensures (c .pre)) in (
+      ap headOf e ∙ sym (c .first-child-of-at .ensures (c .pre)),
+      ap (λ u. plus u (underOf (from T at))) (c .none-sum .ensures) ∙ (none-plus (underOf (from T at)) ∙ ap underOf e),
+      ap (λ f. fillAll f (c .args .table .now)) e,
+      omega (arith, ap size e),
+    )
 
 pub fill-inner-requires : need.fill-inner-requires
 fill-inner-requires g t c κs within =
@@ -41,7 +42,8 @@ with-node-requires g t c κs =
     record {
       there = from-has T (c .loop-at .at) (c .in-Some .c) (c .loop-at .inv .0) (c .in-Some .is);
       element = subst (λ u. Small (elementOf (tagOf f) u)) (sym (c .fill-inner .ensures .value)) (small-element (tagOf f) (kidsOf f) (room-kids f room));
-      small = subst (λ u. Small (nodeOf f u)) (sym (c .fill-inner .ensures .value)) (small-node f room) }
+      small = subst (λ u. Small (nodeOf f u)) (sym (c .fill-inner .ensures .value)) (small-node f room);
+    }
 
 pub plus-sum-requires : need.plus-sum-requires
 plus-sum-requires g t c κs =
@@ -90,4 +92,5 @@ returns g t c =
     let T = g .P·Page .tree (c .args .p .now) in
     record {
       value = sym (plus-none (c .loop-at .sum)) ∙ (ap (λ r. plus (c .loop-at .sum) (underOf (from T r))) (sym (c .in-rest .is)) ∙ c .loop-at .inv .1);
-      after = ap (λ r. fillAll (from T r) (c .loop-at .table)) (sym (c .in-rest .is)) ∙ c .loop-at .inv .2 }
+      after = ap (λ r. fillAll (from T r) (c .loop-at .table)) (sym (c .in-rest .is)) ∙ c .loop-at .inv .2;
+    }

@@ -43,10 +43,11 @@ loop-c-again g c =
     let w = c .in-Some .w in
     let e = sym (c .in-Some .is) ∙ c .char-of .ensures .value (c .pre) in
     let N = string-bytes (c .loop-c .name) in
-    let R = loweredName (drop (at + w) xs) in
-    (ends xs at x w (c .loop-c .inv .0) e,
-    ap (λ l. l ++ R) (c .in-Continue-push .ensures tt .bytes ∙ ap (λ k. N ++ encode k) (c .lower .ensures))
-    ∙ (append-assoc N (encode (lowered x)) R ∙ (ap (λ l. N ++ l) (sym (cut xs at x w e)) ∙ c .loop-c .inv .1)))
+    let R = loweredName (drop (at + w) xs) in (
+      ends xs at x w (c .loop-c .inv .0) e,
+      ap (λ l. l ++ R) (c .in-Continue-push .ensures tt .bytes ∙ ap (λ k. N ++ encode k) (c .lower .ensures))
+          ∙ (append-assoc N (encode (lowered x)) R ∙ (ap (λ l. N ++ l) (sym (cut xs at x w e)) ∙ c .loop-c .inv .1)),
+    )
 
 pub returns : need.returns
 returns g c =

@@ -30,9 +30,9 @@ returns-then-is-of g c =
     let w = c .args .name .now in
     let j = c .loop-j .j in
     let e : has t (c .args .n) ≡ true → Some j ≡ firstIndex (attrsOf f) w = λ h.
-      let l : j < length (attrsOf f) = omega (arith, count-is f (c .attrs-of-j-end .result) (c .attrs-of-j-end .ensures h)) in
-      let p = name-at f j l in
-      search-here (attrsOf f) w j (c .loop-j .inv h) l (ap (same w) (sym (p .1)) ∙ (sym (c .is-of .ensures (p .0)) ∙ c .if-is-of .taken)) in
+    let l : j < length (attrsOf f) = omega (arith, count-is f (c .attrs-of-j-end .result) (c .attrs-of-j-end .ensures h)) in
+    let p = name-at f j l in
+    search-here (attrsOf f) w j (c .loop-j .inv h) l (ap (same w) (sym (p .1)) ∙ (sym (c .is-of .ensures (p .0)) ∙ c .if-is-of .taken)) in
     record { index = e; first = λ h. subst (First (attrsOf f) w) (sym (e h)) (first (attrsOf f) w) }
 
 pub returns : need.returns

@@ -39,4 +39,5 @@ returns g c =
     record {
       value = back ∙ (c .gained .ensures .value ∙ ((λ i. gain (c .has-word-of-positive .ensures .value (v .1) i) (c .has-word-of-negative .ensures .value (v .1) i)) ∙ (sym (weighed (partOf f (Value (c .in-Some .j))) (v .1)) ∙ ap valueWeight (v .0))));
       low = omega (arith, ints, c .gained .ensures .low, c .gained .ensures .high);
-      high = omega (arith, ints, c .gained .ensures .low, c .gained .ensures .high) }
+      high = omega (arith, ints, c .gained .ensures .low, c .gained .ensures .high);
+    }

@@ -26,11 +26,13 @@ loop-c-again g c =
     let at = c .loop-c .at in
     let x = c .in-Some .c in
     let w = c .in-Some .w in
-    let i = c .in-Some .ensures tt .inside in
-    (omega arith, λ s.
-    let is = sym (c .in-Some .is) ∙ c .char-before .ensures .value (length-is o (c .len-of-len .result) (c .len-of-len .ensures s)) in
-    let cut = scalarsOf-some (drop at xs) x w (sym is) ∙ ap (λ l. x ∷ scalarsOf l) (drop-drop w at xs) in
-    ap (λ m. run step m (scalarsOf (drop (at + w) xs))) (c .eat .ensures) ∙ (sym (ap (run step (c .loop-c .m)) cut) ∙ c .loop-c .inv .1 s))
+    let i = c .in-Some .ensures tt .inside in (
+      omega arith,
+      λ s.
+          let is = sym (c .in-Some .is) ∙ c .char-before .ensures .value (length-is o (c .len-of-len .result) (c .len-of-len .ensures s)) in
+          let cut = scalarsOf-some (drop at xs) x w (sym is) ∙ ap (λ l. x ∷ scalarsOf l) (drop-drop w at xs) in
+          ap (λ m. run step m (scalarsOf (drop (at + w) xs))) (c .eat .ensures) ∙ (sym (ap (run step (c .loop-c .m)) cut) ∙ c .loop-c .inv .1 s),
+    )
 
 pub returns : need.returns
 returns g c =
@@ -39,7 +41,8 @@ returns g c =
     let step = g .M·Machine .step in
     record {
       fed = λ s.
-        let is = c .char-before .ensures .value (length-is o (c .len-of-len .result) (c .len-of-len .ensures s)) in
-        let none = scalarsOf-none (drop (c .loop-c .at) xs) (sym is ∙ c .in-rest .is) in
-        sym (ap (run step (c .loop-c .m)) none) ∙ c .loop-c .inv .1 s;
-      fits = λ s. omega (arith, length-is o (c .len-of-len .result) (c .len-of-len .ensures s)) }
+          let is = c .char-before .ensures .value (length-is o (c .len-of-len .result) (c .len-of-len .ensures s)) in
+          let none = scalarsOf-none (drop (c .loop-c .at) xs) (sym is ∙ c .in-rest .is) in
+          sym (ap (run step (c .loop-c .m)) none) ∙ c .loop-c .inv .1 s;
+      fits = λ s. omega (arith, length-is o (c .len-of-len .result) (c .len-of-len .ensures s));
+    }

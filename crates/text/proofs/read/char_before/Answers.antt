@@ -24,10 +24,13 @@ returns-then-lead-lt128 g c =
     let xs = held (g .P·Page .tree (c .args .p .now)) (c .args .n) (c .args .part) in
     let at = c .args .at in
     let b = c .byte-of-lead .result in
-    record { inside = (omega arith, omega arith); value = λ h.
-      let here : b ≡ getD xs at 0 = byte-is o at b (c .byte-of-lead .ensures) (omega arith) in
-      let one = decoded-one (getD xs at 0) (drop (at + 1) xs) (omega arith) in
-      ap (λ x. Some (x, 1)) here ∙ (sym one ∙ sym (ap decoded (drop-more xs at 0 (omega arith)))) }
+    record {
+      inside = (omega arith, omega arith);
+      value = λ h.
+          let here : b ≡ getD xs at 0 = byte-is o at b (c .byte-of-lead .ensures) (omega arith) in
+          let one = decoded-one (getD xs at 0) (drop (at + 1) xs) (omega arith) in
+          ap (λ x. Some (x, 1)) here ∙ (sym one ∙ sym (ap decoded (drop-more xs at 0 (omega arith))));
+    }
 
 pub returns : need.returns
 returns g c =
@@ -39,4 +42,5 @@ returns g c =
     let z : some - 0 ≡ some = omega arith in
     record {
       inside = subst (λ o. Cases o (Unit {0}) (λ x. (0 < x .1) × (at + x .1 ≤ c .args .len))) (sym (c .decode .ensures .table)) inner;
-      value = λ h. c .decode .ensures .table ∙ (ap (λ k. decoded (take k bytes)) z ∙ (ap decoded (c .next-bytes-bytes .ensures (omega (arith, c .min-some .ensures))) ∙ first-four (drop at xs) some (simp length-drop (omega (arith, c .min-some .ensures))))) }
+      value = λ h. c .decode .ensures .table ∙ (ap (λ k. decoded (take k bytes)) z ∙ (ap decoded (c .next-bytes-bytes .ensures (omega (arith, c .min-some .ensures))) ∙ first-four (drop at xs) some (simp length-drop (omega (arith, c .min-some .ensures)))));
+    }

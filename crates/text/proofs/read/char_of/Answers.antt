@@ -18,4 +18,5 @@ returns g c =
     let o = partOf (find (g .P·Page .tree (c .args .p .now)) (c .args .n)) (c .args .part) in
     record {
       inside = wide (c .char-before .result) (c .args .at) (c .len-of .result) (c .len-of .ok) (c .char-before .ensures .inside);
-      value = λ s. c .char-before .ensures .value (length-is o (c .len-of .result) (c .len-of .ensures s)) }
+      value = λ s. c .char-before .ensures .value (length-is o (c .len-of .result) (c .len-of .ensures s));
+    }

@@ -19,11 +19,13 @@ loop-k-again g c =
     let xs = held (g .P·Page .tree (c .args .p .now)) (c .args .n) (c .args .part) in
     let at = c .args .at in
     let k = c .loop-k .k in
-    let b = c .byte-of .result in
-    (simp length-set (c .loop-k .inv .0), λ h.
-    let here : b ≡ getD (drop at xs) k 0 = byte-is o (at + k) b (c .byte-of .ensures) (omega arith) ∙ sym (getD-drop at xs k 0) in
-    let inside : k < length (drop at xs) = simp length-drop (omega arith) in
-    take-more-set (c .loop-k .bytes) k b (omega (arith, c .loop-k .inv .0)) ∙ (ap (λ l. l ++ b ∷ []) (c .loop-k .inv .1 h) ∙ (ap (λ x. take k (drop at xs) ++ x ∷ []) here ∙ sym (take-more (drop at xs) k 0 inside))))
+    let b = c .byte-of .result in (
+      simp length-set (c .loop-k .inv .0),
+      λ h.
+          let here : b ≡ getD (drop at xs) k 0 = byte-is o (at + k) b (c .byte-of .ensures) (omega arith) ∙ sym (getD-drop at xs k 0) in
+          let inside : k < length (drop at xs) = simp length-drop (omega arith) in
+          take-more-set (c .loop-k .bytes) k b (omega (arith, c .loop-k .inv .0)) ∙ (ap (λ l. l ++ b ∷ []) (c .loop-k .inv .1 h) ∙ (ap (λ x. take k (drop at xs) ++ x ∷ []) here ∙ sym (take-more (drop at xs) k 0 inside))),
+    )
 
 pub returns : need.returns
 returns g c h =

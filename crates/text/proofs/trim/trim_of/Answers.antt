@@ -20,4 +20,5 @@ returns g c =
     record {
       chars = λ s. ap (λ m. m .chars .sum) (c .feed-of .ensures .fed s) ∙ c .new-trim .ensures (scalarsOf xs) (few s) .0;
       bytes = λ s. ap (λ m. m .bytes .sum) (c .feed-of .ensures .fed s) ∙ c .new-trim .ensures (scalarsOf xs) (few s) .1;
-      blank = λ s. ap (λ m. not (m .chars .started)) (c .feed-of .ensures .fed s) ∙ c .new-trim .ensures (scalarsOf xs) (few s) .2 }
+      blank = λ s. ap (λ m. not (m .chars .started)) (c .feed-of .ensures .fed s) ∙ c .new-trim .ensures (scalarsOf xs) (few s) .2;
+    }
