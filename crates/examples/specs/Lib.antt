@@ -1,3 +1,4 @@
 pub mod Joins
 pub mod Pages
 pub mod Scores
+pub mod Worth
