@@ -6,8 +6,8 @@ use crate::page::Page;
 
 // How many levels stand under the node n. It calls itself once a level, and a page has at most 64.
 fn levels_under<P: Page>(p: &P, n: usize) -> usize
-    requires { has (tree p.now) n ≡ true }
-    ensures { result ≡ levels (kids_of (find (tree p.now) n)) }
+    requires { has (P.tree p.now) n ≡ true }
+    ensures { result ≡ levels (kids_of (find (P.tree p.now) n)) }
 {
     let mut most = 0;
     let mut at = p.first_child_of(n);
@@ -23,7 +23,7 @@ fn levels_under<P: Page>(p: &P, n: usize) -> usize
 
 // The height of any page, by walking over it.
 pub fn walk_height<P: Page>(p: &P) -> usize
-    ensures { result ≡ height_of (tree p.now) }
+    ensures { result ≡ height_of (P.tree p.now) }
 {
     levels_under(p, p.root())
 }

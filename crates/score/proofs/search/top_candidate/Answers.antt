@@ -10,7 +10,7 @@ returns-in_err-i g c =
     let kind = g.K.ScoreKind in
     let scores = c.args.scores.now in
     let none = c.in_err-i.ensures in
-    let is = c.from-residual.ensures in
+    let is = c.from_residual.ensures in
     record {
       value = is ∙ top-none kind.exceeds (kind.settled (integer (pos 0))) scores none.value;
       bounded = subst (λ r. WhereSettled kind.settled scores (λ ps. BoundedTop kind.step kind.settled kind.exceeds ps r)) (sym is)
