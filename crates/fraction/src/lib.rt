@@ -49,6 +49,8 @@ fn crossed(numerator: i64, denominator: u32) -> i128
 impl ScoreKind for Fraction {
     const STEP: u16 = 0;
 
+    ghost STEP = { 0 };
+
     ghost step = { 0 };
 
     ghost settled = { fraction };

@@ -7,7 +7,7 @@ use score::ScoreKind;
 
 // The distance step.
 pub fn fraction_step() -> u16
-    ensures* constant { do ⌜ (← (⟦Fraction::STEP⟧).entry) ≡ ghosts.step ⌝ }
+    ensures constant { ⟦<Fraction as ScoreKind>⟧.STEP ≡ ghosts.step }
     ensures value { result ≡ ghosts.step }
 {
     Fraction::STEP

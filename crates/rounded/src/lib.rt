@@ -42,6 +42,8 @@ fn finite_or_zero(a: Rounded) -> f32
 impl ScoreKind for Rounded {
     const STEP: u16 = 1;
 
+    ghost STEP = { 1 };
+
     ghost step = { 1 };
 
     ghost settled = { rounded };

@@ -7,7 +7,7 @@ use score::ScoreKind;
 
 // The distance step.
 pub fn rounded_step() -> u16
-    ensures* constant { do ⌜ (← (⟦Rounded::STEP⟧).entry) ≡ ghosts.step ⌝ }
+    ensures constant { ⟦<Rounded as ScoreKind>⟧.STEP ≡ ghosts.step }
     ensures value { result ≡ ghosts.step }
 {
     Rounded::STEP

@@ -11,6 +11,10 @@ pub trait ScoreKind: Copy {
     // The distance step.
     const STEP: u16;
 
+    // the constant, for contracts
+    ghost STEP: { ℕ };
+
+    // the step of the laws
     ghost step: { ℕ };
 
     ghost settled: { Points → Self };

@@ -15,7 +15,7 @@ fn is_parent_code(kind: u8) -> bool
 
 // Kind 0 first and only there, at most 4.
 pub fn kind_ok<R: Records>(t: &R, i: usize) -> bool
-    ensures { result ≡ kind_ok (table t.now) i }
+    ensures { result ≡ kind_ok (R.table t.now) i }
 {
     let kind = t.node(i).kind;
     if i == 0 {
@@ -27,7 +27,7 @@ pub fn kind_ok<R: Records>(t: &R, i: usize) -> bool
 
 // Depth 0 first, later 1 to 62, at most one more than the node before, and more only under a document or an element.
 pub fn depth_ok<R: Records>(t: &R, i: usize) -> bool
-    ensures { result ≡ depth_ok (table t.now) i }
+    ensures { result ≡ depth_ok (R.table t.now) i }
 {
     let depth = t.node(i).depth;
     if i == 0 {
@@ -40,7 +40,7 @@ pub fn depth_ok<R: Records>(t: &R, i: usize) -> bool
 }
 
 fn attr_end<R: Records>(t: &R, j: usize) -> usize
-    ensures { result ≡ attr_end (table t.now) j }
+    ensures { result ≡ attr_end (R.table t.now) j }
 {
     let a = t.attr(j);
     a.start as usize + a.name as usize + a.value as usize
@@ -48,7 +48,7 @@ fn attr_end<R: Records>(t: &R, j: usize) -> usize
 
 fn attr_start<R: Records>(t: &R, x: NodeRecord, k: usize) -> usize
     requires { k ≤ 2 ^ 16 }
-    ensures { result ≡ attr_start (table t.now) x k }
+    ensures { result ≡ attr_start (R.table t.now) x k }
 {
     if k == 0 {
         x.start as usize + x.len as usize
@@ -58,7 +58,7 @@ fn attr_start<R: Records>(t: &R, x: NodeRecord, k: usize) -> usize
 }
 
 fn attrs_before<R: Records>(t: &R, i: usize) -> usize
-    ensures { result ≡ attrs_before (table t.now) i }
+    ensures { result ≡ attrs_before (R.table t.now) i }
 {
     if i == 0 {
         return 0;
@@ -68,7 +68,7 @@ fn attrs_before<R: Records>(t: &R, i: usize) -> usize
 }
 
 fn bytes_before<R: Records>(t: &R, i: usize) -> usize
-    ensures { result ≡ bytes_before (table t.now) i }
+    ensures { result ≡ bytes_before (R.table t.now) i }
 {
     if i == 0 {
         return 0;
@@ -79,14 +79,14 @@ fn bytes_before<R: Records>(t: &R, i: usize) -> usize
 
 fn attr_ok<R: Records>(t: &R, x: NodeRecord, k: usize) -> bool
     requires { k < 2 ^ 16 }
-    ensures { result ≡ attr_ok (table t.now) x k }
+    ensures { result ≡ attr_ok (R.table t.now) x k }
 {
     let j = x.first as usize + k;
     t.attr(j).start as usize == attr_start(t, x, k) && attr_end(t, j) <= t.bytes()
 }
 
 fn attrs_ok<R: Records>(t: &R, x: NodeRecord) -> bool
-    ensures { result ≡ each x.attrs (attr_ok (table t.now) x) }
+    ensures { result ≡ each x.attrs (attr_ok (R.table t.now) x) }
 {
     for k in 0..x.attrs as usize {
         if !attr_ok(t, x, k) {
@@ -98,7 +98,7 @@ fn attrs_ok<R: Records>(t: &R, x: NodeRecord) -> bool
 
 // Attributes on elements only, the document's content empty, attributes and bytes running on without gap, all inside.
 pub fn layout_ok<R: Records>(t: &R, i: usize) -> bool
-    ensures { result ≡ layout_ok (table t.now) i }
+    ensures { result ≡ layout_ok (R.table t.now) i }
 {
     let x = t.node(i);
     if x.attrs != 0 && x.kind != 4 {
@@ -123,7 +123,7 @@ pub fn layout_ok<R: Records>(t: &R, i: usize) -> bool
 }
 
 fn attr_formed<R: Records>(t: &R, j: usize) -> bool
-    ensures { result ≡ attr_formed (table t.now) j }
+    ensures { result ≡ attr_formed (R.table t.now) j }
 {
     let a = t.attr(j);
     well_formed(t.part(a.start as usize, a.name as usize))
@@ -131,7 +131,7 @@ fn attr_formed<R: Records>(t: &R, j: usize) -> bool
 }
 
 fn attrs_formed<R: Records>(t: &R, x: NodeRecord) -> bool
-    ensures { result ≡ each x.attrs (λ k. attr_formed (table t.now) (x.first + k)) }
+    ensures { result ≡ each x.attrs (λ k. attr_formed (R.table t.now) (x.first + k)) }
 {
     for k in 0..x.attrs as usize {
         if !attr_formed(t, x.first as usize + k) {
@@ -143,7 +143,7 @@ fn attrs_formed<R: Records>(t: &R, x: NodeRecord) -> bool
 
 // The content, and each name and value, is well-formed UTF-8.
 pub fn formed_ok<R: Records>(t: &R, i: usize) -> bool
-    ensures { result ≡ formed_ok (table t.now) i }
+    ensures { result ≡ formed_ok (R.table t.now) i }
 {
     let x = t.node(i);
     well_formed(t.part(x.start as usize, x.len as usize)) && attrs_formed(t, x)
@@ -151,14 +151,14 @@ pub fn formed_ok<R: Records>(t: &R, i: usize) -> bool
 
 // The attributes and the bytes end with the last of n nodes.
 pub fn ends_ok<R: Records>(t: &R, n: usize) -> bool
-    ensures { result ≡ ends_ok (table t.now) n }
+    ensures { result ≡ ends_ok (R.table t.now) n }
 {
     attrs_before(t, n) == t.attrs() && bytes_before(t, n) == t.bytes()
 }
 
 // The checks of one node, in their order.
 pub fn check_node<R: Records>(t: &R, i: usize) -> Result<(), Check>
-    ensures { refused result ≡ first_no (answer (table t.now)) (of_node i) }
+    ensures { refused result ≡ first_no (answer (R.table t.now)) (of_node i) }
 {
     if !kind_ok(t, i) {
         return Err(Check::Kind(i));
@@ -177,7 +177,7 @@ pub fn check_node<R: Records>(t: &R, i: usize) -> Result<(), Check>
 
 // The checks of every node, and the last one.
 pub fn check_nodes<R: Records>(t: &R) -> Result<(), Check>
-    ensures { refused result ≡ first_no (answer (table t.now)) (of_nodes 0 (length (table t.now).nodes)) }
+    ensures { refused result ≡ first_no (answer (R.table t.now)) (of_nodes 0 (length (R.table t.now).nodes)) }
 {
     let n = t.nodes();
     for i in 0..n {

@@ -11,7 +11,7 @@ use utf8::decode;
 fn next_bytes<P: Page>(p: &P, n: usize, part: Part, at: usize, some: usize) -> [u8; 4]
     requires few { some ≤ 4 }
     requires fits { at + some < 2 ^ 64 }
-    ensures { at + some ≤ length (held (tree p.now) n part) → take some result ≡ take some (drop at (held (tree p.now) n part)) }
+    ensures { at + some ≤ length (held (P.tree p.now) n part) → take some result ≡ take some (drop at (held (P.tree p.now) n part)) }
 {
     let mut bytes = [0u8; 4];
     for k in 0..some {
@@ -29,7 +29,7 @@ pub(crate) fn char_before<P: Page>(
     at: usize,
 ) -> Option<(char, usize)>
     ensures inside { IfSome result (λ x. (0 < x.1) × (at + x.1 ≤ len)) }
-    ensures value { len ≡ length (held (tree p.now) n part) → result ≡ decoded (drop at (held (tree p.now) n part)) }
+    ensures value { len ≡ length (held (P.tree p.now) n part) → result ≡ decoded (drop at (held (P.tree p.now) n part)) }
 {
     if at >= len {
         return None;
@@ -47,7 +47,7 @@ pub(crate) fn char_before<P: Page>(
 // answer is not determined.
 pub fn char_of<P: Page>(p: &P, n: usize, part: Part, at: usize) -> Option<(char, usize)>
     ensures inside { IfSome result (λ x. (0 < x.1) × (at + x.1 < 2 ^ 64)) }
-    ensures value { is_some (part_of (find (tree p.now) n) part) ≡ true → result ≡ decoded (drop at (held (tree p.now) n part)) }
+    ensures value { is_some (part_of (find (P.tree p.now) n) part) ≡ true → result ≡ decoded (drop at (held (P.tree p.now) n part)) }
 {
     char_before(p, n, part, p.len_of(n, part), at)
 }

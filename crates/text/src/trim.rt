@@ -96,9 +96,9 @@ impl Machine for Trim {
 
 // Trims a part that is there; away from one the answer is not determined.
 pub fn trim_of<P: Page>(p: &P, n: usize, part: Part) -> Trim
-    ensures chars { is_some (part_of (find (tree p.now) n) part) ≡ true → result.chars.sum ≡ trimmed_length (scalars_of (held (tree p.now) n part)) }
-    ensures bytes { is_some (part_of (find (tree p.now) n) part) ≡ true → result.bytes.sum ≡ trimmed_bytes (scalars_of (held (tree p.now) n part)) }
-    ensures blank { is_some (part_of (find (tree p.now) n) part) ≡ true → not result.chars.started ≡ blank (scalars_of (held (tree p.now) n part)) }
+    ensures chars { is_some (part_of (find (P.tree p.now) n) part) ≡ true → result.chars.sum ≡ trimmed_length (scalars_of (held (P.tree p.now) n part)) }
+    ensures bytes { is_some (part_of (find (P.tree p.now) n) part) ≡ true → result.bytes.sum ≡ trimmed_bytes (scalars_of (held (P.tree p.now) n part)) }
+    ensures blank { is_some (part_of (find (P.tree p.now) n) part) ≡ true → not result.chars.started ≡ blank (scalars_of (held (P.tree p.now) n part)) }
 {
     let mut trim = Trim::new();
     feed_of(p, n, part, &mut trim);

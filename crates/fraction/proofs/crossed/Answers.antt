@@ -15,7 +15,7 @@ value z n m f h e =
     to_z-of_z w128 (cast z *ℤ to_z w128 n) (fits z n f h) ∙ ap (λ (y : ℤ). y *ℤ to_z w128 n) (widened z f) ∙ ap (λ (y : ℤ). z *ℤ y) (widened-nat n h ∙ ap pos e)
 
 pub overflow_mul-result : goal.overflow_mul-result
-overflow_mul-result c = fits c.args.numerator c.max.result c.ranges.numerator c.max.type-inv
+overflow_mul-result c = fits c.args.numerator c.max.result c.ranges.numerator c.max.type_inv
 
 pub returns : goal.returns
-returns c = value c.args.numerator c.max.result _ c.ranges.numerator c.max.type-inv c.max.ensures
+returns c = value c.args.numerator c.max.result _ c.ranges.numerator c.max.type_inv c.max.ensures

@@ -16,12 +16,12 @@ product_is p g f k e = ap (λ (z : ℤ). z *ℤ to_z w64 (of_z w64 g)) (widened-
 pub overflow_mul-result : goal.overflow_mul-result
 overflow_mul-result c =
     let f : SFits w32 c.args.p.h = search rules in
-    let k : SFits w64 c.unlinked.result = record { sfits = c.unlinked.type-inv } in
+    let k : SFits w64 c.unlinked.result = record { sfits = c.unlinked.type_inv } in
     subst (λ (z : ℤ). SFits w64 z) (sym (product_is c.args.p c.unlinked.result f k c.unlinked.ensures)) (exact-fits c.args.p (range-out c.args.p c.requires))
 
 pub returns : goal.returns
 returns c =
     let p = c.args.p in
     let f : SFits w32 c.args.p.h = search rules in
-    let k : SFits w64 c.unlinked.result = record { sfits = c.unlinked.type-inv } in
+    let k : SFits w64 c.unlinked.result = record { sfits = c.unlinked.type_inv } in
     ap (λ (z : ℤ). to_z w64 (of_z w64 z)) (product_is p c.unlinked.result f k c.unlinked.ensures) ∙ to_z-of_z w64 (exact p) (exact-fits p (range-out p c.requires))

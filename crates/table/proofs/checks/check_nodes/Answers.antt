@@ -23,7 +23,7 @@ returns-in_err-check_node g c =
     let ok = answer (g.R.Records.table c.args.t.now) in
     let n = c.nodes-n.result in
     let i = c.loop-i.i in
-    let p = err_from_is_err_and c.from-residual.result c.from-residual.ensures.1 in
+    let p = err_from_is_err_and c.from_residual.result c.from_residual.ensures.1 in
     rw (p.1, p.2)
     (sym (ap (λ k. first_no ok (of_nodes 0 k)) (sym c.nodes-n.ensures) ∙ (c.loop-i.invariant ∙ (ap (first_no ok) (of-next i n c.loop-i-test.true)
     ∙ stays ok (of_node i) (of_nodes (i + 1) (n - (i + 1))) c.in_err-check_node.field-0.0 (sym c.in_err-check_node.ensures)))))

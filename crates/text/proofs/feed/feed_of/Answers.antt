@@ -38,7 +38,7 @@ returns g c =
     record {
       fed = λ s.
           let is = c.char_before.ensures.value (length-is o c.len_of-len.result (c.len_of-len.ensures s)) in
-          let none = scalars_of-none (drop c.loop-c.at xs) (sym is ∙ c.in-default.is) in
+          let none = scalars_of-none (drop c.loop-c.at xs) (sym is ∙ c.in_default.is) in
           sym (ap (run step c.loop-c.m) none) ∙ c.loop-c.invariant.1 s;
       fits = λ s. omega (arith, length-is o c.len_of-len.result (c.len_of-len.ensures s));
     }

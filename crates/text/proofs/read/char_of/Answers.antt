@@ -12,6 +12,6 @@ pub returns : goal.returns
 returns g c =
     let o = part_of (find (g.P.Page.tree c.args.p.now) c.args.n) c.args.part in
     record {
-      inside = wide c.char_before.result c.args.at c.len_of.result c.len_of.type-inv c.char_before.ensures.inside;
+      inside = wide c.char_before.result c.args.at c.len_of.result c.len_of.type_inv c.char_before.ensures.inside;
       value = λ s. c.char_before.ensures.value (length-is o c.len_of.result (c.len_of.ensures s));
     }

@@ -53,4 +53,4 @@ returns c =
     let f = c.args.file.now in
     let v = c.in_ok-counts.ensures.refused in
     let same : tree_of (table_of c.over-sections.result.file.now) ≡ tree_of (table_of f) = ap (λ l. tree_of (table_of l)) c.over-sections.ensures in
-    record { verdict = v; page = same; exactly = subst (FileOf f) (sym same) (file-of f (λ i. (c.type-inv.file i).fits) (sym v)) }
+    record { verdict = v; page = same; exactly = subst (FileOf f) (sym same) (file-of f (λ i. (c.type_inv.file i).fits) (sym v)) }
