@@ -53,7 +53,7 @@ fn one_if_long(size: usize) -> usize
 
 // The figures of the content of a node alone; away from a node they are not determined.
 pub(crate) fn leaf_of<P: Page>(p: &P, n: usize) -> Under
-    ensures { is_some (part_of (find (tree p.now) n) Content) ≡ true → result ≡ leaf_of (scalars_of (held (tree p.now) n Content)) }
+    ensures { is_some (part_of (find (P.tree p.now) n) Content) ≡ true → result ≡ leaf_of (scalars_of (held (P.tree p.now) n Content)) }
 {
     let mut scan = Scan {
         trim: Trim::new(),

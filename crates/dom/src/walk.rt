@@ -13,10 +13,10 @@ use page::{NodeKind, Page};
 
 // The figures of the node n with those of what is under it.
 fn with_node<P: Page>(p: &P, n: usize, inner: &Under) -> Under
-    requires there { has (tree p.now) n ≡ true }
-    requires element { Small (element_of (tag_of (find (tree p.now) n)) inner.now) }
-    requires small { Small (node_of (find (tree p.now) n) inner.now) }
-    ensures { result ≡ node_of (find (tree p.now) n) inner.now }
+    requires there { has (P.tree p.now) n ≡ true }
+    requires element { Small (element_of (tag_of (find (P.tree p.now) n)) inner.now) }
+    requires small { Small (node_of (find (P.tree p.now) n) inner.now) }
+    ensures { result ≡ node_of (find (P.tree p.now) n) inner.now }
 {
     match p.kind_of(n) {
         NodeKind::Text => leaf_of(p, n).plus(&inner.in_element(Tag::Other)),
@@ -36,9 +36,9 @@ fn put(table: &mut [Under], at: usize, under: Under)
 // The figures of what is under the node n; those of each node under it go into the table at its number. It calls itself
 // once a level, and a page has at most 64.
 fn fill<P: Page>(p: &P, n: usize, table: &mut [Under]) -> Under
-    requires { has (tree p.now) n ≡ true }
-    ensures value { result ≡ under_of (kids_of (find (tree p.now) n)) }
-    ensures after { table.new ≡ fill_all (kids_of (find (tree p.now) n)) table.old }
+    requires { has (P.tree p.now) n ≡ true }
+    ensures value { result ≡ under_of (kids_of (find (P.tree p.now) n)) }
+    ensures after { table.new ≡ fill_all (kids_of (find (P.tree p.now) n)) table.old }
 {
     let mut sum = Under::none();
     let mut at = p.first_child_of(n);
@@ -53,7 +53,7 @@ fn fill<P: Page>(p: &P, n: usize, table: &mut [Under]) -> Under
 
 // The figures of what is under n: nothing where n is no node.
 pub fn under_of<P: Page>(p: &P, n: usize) -> Under
-    ensures value { result ≡ under_of (kids_of (find (tree p.now) n)) }
+    ensures value { result ≡ under_of (kids_of (find (P.tree p.now) n)) }
     ensures bounds { Bounded result }
 {
     if p.has(n) {
@@ -66,8 +66,8 @@ pub fn under_of<P: Page>(p: &P, n: usize) -> Under
 // The figures of what is under each node, into the table at its number; other entries stay, and so do nodes behind its
 // end without one.
 pub fn fill_under<P: Page>(p: &P, table: &mut [Under])
-    ensures after { table.new ≡ fill_all (tree p.now) table.old }
-    ensures measured { Measured (tree p.now) table.new }
+    ensures after { table.new ≡ fill_all (P.tree p.now) table.old }
+    ensures measured { Measured (P.tree p.now) table.new }
 {
     let root = p.root();
     let all = fill(p, root, table);

@@ -26,7 +26,7 @@ fn refusal_text(heap: Global, check: Check) -> Result<Vec<u8>, AllocError>
 
 // The figures of every element of any page, a line each, in document order. It fails only for want of memory.
 pub fn page_points<P: Page>(heap: Global, p: &P) -> Result<Vec<u8>, AllocError>
-    ensures { IfOk result (λ v. v.items ≡ point_lines (tree p.now)) }
+    ensures { IfOk result (λ v. v.items ≡ point_lines (P.tree p.now)) }
 {
     let mut table = vec![in heap; Under::none(); p.bound()]?;
     fill_under(p, table.as_mut_slice());

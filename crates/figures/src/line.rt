@@ -18,8 +18,8 @@ use text::char_of;
 
 // The name of an element, lowered.
 fn name_text<P: Page>(heap: Global, p: &P, n: usize) -> Result<String, AllocError>
-    requires { is_some (part_of (find (tree p.now) n) Content) ≡ true }
-    ensures { IfOk result (λ s. string_bytes s ≡ lowered_name (held (tree p.now) n Content)) }
+    requires { is_some (part_of (find (P.tree p.now) n) Content) ≡ true }
+    ensures { IfOk result (λ s. string_bytes s ≡ lowered_name (held (P.tree p.now) n Content)) }
 {
     let mut name = String::new(heap);
     let mut at = 0;
@@ -70,8 +70,8 @@ fn number_text(heap: Global, n: usize) -> Result<String, AllocError>
 
 // The number and the quoted name.
 fn push_name<P: Page>(heap: Global, p: &P, n: usize, out: &mut Vec<u8>) -> Result<(), AllocError>
-    requires { is_some (part_of (find (tree p.now) n) Content) ≡ true }
-    ensures { OnOk result (out.new.items ≡ out.old.items ++ numbered n (held (tree p.now) n Content)) }
+    requires { is_some (part_of (find (P.tree p.now) n) Content) ≡ true }
+    ensures { OnOk result (out.new.items ≡ out.old.items ++ numbered n (held (P.tree p.now) n Content)) }
 {
     let number = number_text(heap, n)?;
     out.extend_from_slice(number.as_bytes())?;
@@ -88,9 +88,9 @@ pub(crate) fn push_line<P: Page>(
     under: &Under,
     out: &mut Vec<u8>,
 ) -> Result<(), AllocError>
-    requires there { has_in (tree p.now) n ≡ true }
-    requires figures { under.now ≡ under_of (kids_of (find (tree p.now) n)) }
-    ensures { OnOk result (out.new.items ≡ out.old.items ++ element_line (find (tree p.now) n)) }
+    requires there { has_in (P.tree p.now) n ≡ true }
+    requires figures { under.now ≡ under_of (kids_of (find (P.tree p.now) n)) }
+    ensures { OnOk result (out.new.items ≡ out.old.items ++ element_line (find (P.tree p.now) n)) }
 {
     let NodeKind::Element = p.kind_of(n) else {
         return Ok(());

@@ -17,10 +17,10 @@ fn push_under<P: Page>(
     table: &[Under],
     out: &mut Vec<u8>,
 ) -> Result<(), AllocError>
-    requires there { has_in (tree p.now) n ≡ true }
+    requires there { has_in (P.tree p.now) n ≡ true }
     requires long { limit p.now ≤ length table.now }
-    requires measured { Measured (tree p.now) table.now }
-    ensures { OnOk result (out.new.items ≡ out.old.items ++ point_lines (kids_of (find (tree p.now) n))) }
+    requires measured { Measured (P.tree p.now) table.now }
+    ensures { OnOk result (out.new.items ≡ out.old.items ++ point_lines (kids_of (find (P.tree p.now) n))) }
 {
     let mut at = p.first_child_of(n);
     while let Some(c) = at {
@@ -39,8 +39,8 @@ pub(crate) fn push_points<P: Page>(
     out: &mut Vec<u8>,
 ) -> Result<(), AllocError>
     requires long { limit p.now ≤ length table.now }
-    requires measured { Measured (tree p.now) table.now }
-    ensures { OnOk result (out.new.items ≡ out.old.items ++ point_lines (tree p.now)) }
+    requires measured { Measured (P.tree p.now) table.now }
+    ensures { OnOk result (out.new.items ≡ out.old.items ++ point_lines (P.tree p.now)) }
 {
     let root = p.root();
     push_line(heap, p, root, &table[root], out)?;

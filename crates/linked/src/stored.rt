@@ -28,7 +28,7 @@ fn byte_at(bytes: &[u8], i: usize) -> u8
 
 // The record of the attribute j of a node.
 fn attr_of<R: Records>(t: &R, x: NodeRecord, j: usize) -> AttrRecord
-    ensures { j < x.attrs → result ≡ attr_at (table t.now) (x.first + j) }
+    ensures { j < x.attrs → result ≡ attr_at (R.table t.now) (x.first + j) }
 {
     if j < x.attrs as usize {
         t.attr(x.first as usize + j)
@@ -43,19 +43,19 @@ fn attr_of<R: Records>(t: &R, x: NodeRecord, j: usize) -> AttrRecord
 
 // What accepted records say of the node n: its kind, how many attributes it has, and the lengths and bytes of its parts.
 pub(crate) fn stored_kind<R: Records>(t: &R, n: usize) -> NodeKind
-    ensures { accepts (table t.now) ≡ true → has (tree_of (table t.now)) n ≡ true → Some result ≡ kind_of (find (tree_of (table t.now)) n) }
+    ensures { accepts (R.table t.now) ≡ true → has (tree_of (R.table t.now)) n ≡ true → Some result ≡ kind_of (find (tree_of (R.table t.now)) n) }
 {
     kind_with(t.node(n).kind)
 }
 
 pub(crate) fn stored_attrs<R: Records>(t: &R, n: usize) -> usize
-    ensures { accepts (table t.now) ≡ true → has (tree_of (table t.now)) n ≡ true → Some result ≡ count_of (find (tree_of (table t.now)) n) }
+    ensures { accepts (R.table t.now) ≡ true → has (tree_of (R.table t.now)) n ≡ true → Some result ≡ count_of (find (tree_of (R.table t.now)) n) }
 {
     t.node(n).attrs as usize
 }
 
 pub(crate) fn stored_len<R: Records>(t: &R, n: usize, part: Part) -> usize
-    ensures { accepts (table t.now) ≡ true → is_some (part_of (find (tree_of (table t.now)) n) part) ≡ true → Some result ≡ length_in (part_of (find (tree_of (table t.now)) n) part) }
+    ensures { accepts (R.table t.now) ≡ true → is_some (part_of (find (tree_of (R.table t.now)) n) part) ≡ true → Some result ≡ length_in (part_of (find (tree_of (R.table t.now)) n) part) }
 {
     let x = t.node(n);
     match part {
@@ -66,7 +66,7 @@ pub(crate) fn stored_len<R: Records>(t: &R, n: usize, part: Part) -> usize
 }
 
 pub(crate) fn stored_byte<R: Records>(t: &R, n: usize, part: Part, i: usize) -> u8
-    ensures { accepts (table t.now) ≡ true → is_some (byte_in (part_of (find (tree_of (table t.now)) n) part) i) ≡ true → Some result ≡ byte_in (part_of (find (tree_of (table t.now)) n) part) i }
+    ensures { accepts (R.table t.now) ≡ true → is_some (byte_in (part_of (find (tree_of (R.table t.now)) n) part) i) ≡ true → Some result ≡ byte_in (part_of (find (tree_of (R.table t.now)) n) part) i }
 {
     let x = t.node(n);
     match part {

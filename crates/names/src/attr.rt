@@ -9,7 +9,7 @@ use page::{Page, Part};
 
 // Whether a part that is there holds exactly these bytes; away from one the answer is not determined.
 pub fn is_of<P: Page>(p: &P, n: usize, part: Part, word: &[u8]) -> bool
-    ensures { is_some (part_of (find (tree p.now) n) part) ≡ true → result ≡ same word.now (held (tree p.now) n part) }
+    ensures { is_some (part_of (find (P.tree p.now) n) part) ≡ true → result ≡ same word.now (held (P.tree p.now) n part) }
 {
     if p.len_of(n, part) != word.len() {
         return false;
@@ -24,8 +24,8 @@ pub fn is_of<P: Page>(p: &P, n: usize, part: Part, word: &[u8]) -> bool
 
 // Which attribute of a node is the first of this name; away from a node the answer is not determined.
 pub fn first_attr_of<P: Page>(p: &P, n: usize, name: &[u8]) -> Option<usize>
-    ensures index { has (tree p.now) n ≡ true → result ≡ first_index (attrs_of (find (tree p.now) n)) name.now }
-    ensures first { has (tree p.now) n ≡ true → First (attrs_of (find (tree p.now) n)) name.now result }
+    ensures index { has (P.tree p.now) n ≡ true → result ≡ first_index (attrs_of (find (P.tree p.now) n)) name.now }
+    ensures first { has (P.tree p.now) n ≡ true → First (attrs_of (find (P.tree p.now) n)) name.now result }
 {
     for j in 0..p.attrs_of(n) {
         if is_of(p, n, Part::Name(j), name) {

@@ -216,7 +216,7 @@ const TAGS: [Named; 33] = [
 
 // Whether the content of a node spells the word, lowered.
 fn spells<P: Page>(p: &P, n: usize, word: &[u8]) -> bool
-    ensures { is_some (part_of (find (tree p.now) n) Content) ≡ true → result ≡ same word.now (map lowered (scalars_of (held (tree p.now) n Content))) }
+    ensures { is_some (part_of (find (P.tree p.now) n) Content) ≡ true → result ≡ same word.now (map lowered (scalars_of (held (P.tree p.now) n Content))) }
 {
     let mut at = 0;
     for b in word {
@@ -236,7 +236,7 @@ fn spells<P: Page>(p: &P, n: usize, word: &[u8]) -> bool
 
 // The tag that a table has for the content of a node.
 fn look_up<P: Page>(p: &P, n: usize, table: &[Named]) -> Tag
-    ensures { is_some (part_of (find (tree p.now) n) Content) ≡ true → result ≡ sought (map entry table.now) (map lowered (scalars_of (held (tree p.now) n Content))) }
+    ensures { is_some (part_of (find (P.tree p.now) n) Content) ≡ true → result ≡ sought (map entry table.now) (map lowered (scalars_of (held (P.tree p.now) n Content))) }
 {
     for e in table {
         if spells(p, n, e.name) {
@@ -248,7 +248,7 @@ fn look_up<P: Page>(p: &P, n: usize, table: &[Named]) -> Tag
 
 // The tag of a node; away from one the answer is not determined.
 pub fn tag_of<P: Page>(p: &P, n: usize) -> Tag
-    ensures { has (tree p.now) n ≡ true → result ≡ tag_of (find (tree p.now) n) }
+    ensures { has (P.tree p.now) n ≡ true → result ≡ tag_of (find (P.tree p.now) n) }
 {
     match p.kind_of(n) {
         NodeKind::Element => look_up(p, n, &TAGS),

@@ -80,7 +80,7 @@ pub const NEGATIVE_CANDIDATES: [&[u8]; 25] = [
 // Whether the word stands at the place, in a part of which the length is given.
 fn word_at<P: Page>(p: &P, n: usize, part: Part, len: usize, at: usize, word: &[u8]) -> bool
     requires { at ≤ len }
-    ensures { len ≡ length (held (tree p.now) n part) → result ≡ begins word.now (drop at (held (tree p.now) n part)) }
+    ensures { len ≡ length (held (P.tree p.now) n part) → result ≡ begins word.now (drop at (held (P.tree p.now) n part)) }
 {
     if len - at < word.len() {
         return false;
@@ -96,7 +96,7 @@ fn word_at<P: Page>(p: &P, n: usize, part: Part, len: usize, at: usize, word: &[
 // Whether one of the words stands at the place.
 fn some_at<P: Page>(p: &P, n: usize, part: Part, len: usize, at: usize, words: &[&[u8]]) -> bool
     requires { at ≤ len }
-    ensures { len ≡ length (held (tree p.now) n part) → result ≡ some_begins (map (λ x. x.now) words.now) (drop at (held (tree p.now) n part)) }
+    ensures { len ≡ length (held (P.tree p.now) n part) → result ≡ some_begins (map (λ x. x.now) words.now) (drop at (held (P.tree p.now) n part)) }
 {
     for word in words {
         if word_at(p, n, part, len, at, word) {
@@ -109,8 +109,8 @@ fn some_at<P: Page>(p: &P, n: usize, part: Part, len: usize, at: usize, words: &
 // Whether one of the words occurs in a part that is there, letter case counting; away from one the answer is not
 // determined.
 pub fn has_word_of<P: Page>(p: &P, n: usize, part: Part, words: &[&[u8]]) -> bool
-    ensures value { is_some (part_of (find (tree p.now) n) part) ≡ true → result ≡ has_word (map (λ x. x.now) words.now) (held (tree p.now) n part) }
-    ensures occurs { is_some (part_of (find (tree p.now) n) part) ≡ true → Decides result (SomeWord (map (λ x. x.now) words.now) (held (tree p.now) n part)) }
+    ensures value { is_some (part_of (find (P.tree p.now) n) part) ≡ true → result ≡ has_word (map (λ x. x.now) words.now) (held (P.tree p.now) n part) }
+    ensures occurs { is_some (part_of (find (P.tree p.now) n) part) ≡ true → Decides result (SomeWord (map (λ x. x.now) words.now) (held (P.tree p.now) n part)) }
 {
     let len = p.len_of(n, part);
     for at in 0..len {

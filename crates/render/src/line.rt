@@ -33,8 +33,8 @@ fn kind_word(kind: NodeKind) -> &'static [u8]
 
 // A part in quotes.
 fn push_quoted<P: Page>(p: &P, n: usize, part: Part, out: &mut Vec<u8>) -> Result<(), AllocError>
-    requires { is_some (part_of (find (tree p.now) n) part) ≡ true }
-    ensures { OnOk result (out.new.items ≡ out.old.items ++ quoted (part_bytes (find (tree p.now) n) part)) }
+    requires { is_some (part_of (find (P.tree p.now) n) part) ≡ true }
+    ensures { OnOk result (out.new.items ≡ out.old.items ++ quoted (part_bytes (find (P.tree p.now) n) part)) }
 {
     out.push(b'"')?;
     for i in 0..p.len_of(n, part) {
@@ -46,8 +46,8 @@ fn push_quoted<P: Page>(p: &P, n: usize, part: Part, out: &mut Vec<u8>) -> Resul
 
 // The content of all but the document: a space and the quoted bytes.
 fn push_content<P: Page>(p: &P, n: usize, out: &mut Vec<u8>) -> Result<(), AllocError>
-    requires { has_in (tree p.now) n ≡ true }
-    ensures { OnOk result (out.new.items ≡ out.old.items ++ content_in (find (tree p.now) n)) }
+    requires { has_in (P.tree p.now) n ≡ true }
+    ensures { OnOk result (out.new.items ≡ out.old.items ++ content_in (find (P.tree p.now) n)) }
 {
     if let NodeKind::Document = p.kind_of(n) {
         return Ok(());
@@ -59,8 +59,8 @@ fn push_content<P: Page>(p: &P, n: usize, out: &mut Vec<u8>) -> Result<(), Alloc
 
 // An attribute: a space, the quoted name, an equals sign, the quoted value.
 fn push_attr<P: Page>(p: &P, n: usize, j: usize, out: &mut Vec<u8>) -> Result<(), AllocError>
-    requires { j < length (attrs_of (find (tree p.now) n)) }
-    ensures { OnOk result (out.new.items ≡ out.old.items ++ attr_text (slice_index_or (attrs_of (find (tree p.now) n)) j ([], []))) }
+    requires { j < length (attrs_of (find (P.tree p.now) n)) }
+    ensures { OnOk result (out.new.items ≡ out.old.items ++ attr_text (slice_index_or (attrs_of (find (P.tree p.now) n)) j ([], []))) }
 {
     out.push(b' ')?;
     push_quoted(p, n, Part::Name(j), out)?;
@@ -70,8 +70,8 @@ fn push_attr<P: Page>(p: &P, n: usize, j: usize, out: &mut Vec<u8>) -> Result<()
 }
 
 fn push_attrs<P: Page>(p: &P, n: usize, out: &mut Vec<u8>) -> Result<(), AllocError>
-    requires { has_in (tree p.now) n ≡ true }
-    ensures { OnOk result (out.new.items ≡ out.old.items ++ attrs_text (attrs_of (find (tree p.now) n))) }
+    requires { has_in (P.tree p.now) n ≡ true }
+    ensures { OnOk result (out.new.items ≡ out.old.items ++ attrs_text (attrs_of (find (P.tree p.now) n))) }
 {
     for j in 0..p.attrs_of(n) {
         push_attr(p, n, j, out)?;
@@ -86,9 +86,9 @@ pub(crate) fn push_line<P: Page>(
     depth: usize,
     out: &mut Vec<u8>,
 ) -> Result<(), AllocError>
-    requires there { has_in (tree p.now) n ≡ true }
+    requires there { has_in (P.tree p.now) n ≡ true }
     requires flat { depth ≤ 64 }
-    ensures { OnOk result (out.new.items ≡ out.old.items ++ line_of depth (find (tree p.now) n)) }
+    ensures { OnOk result (out.new.items ≡ out.old.items ++ line_of depth (find (P.tree p.now) n)) }
 {
     push_indent(out, depth)?;
     out.extend_from_slice(kind_word(p.kind_of(n)))?;

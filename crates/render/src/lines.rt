@@ -9,9 +9,9 @@ use std::alloc::AllocError;
 
 // The lines of what stands under the node n, its children at this depth. It calls itself once a level.
 fn push_under<P: Page>(p: &P, n: usize, depth: usize, out: &mut Vec<u8>) -> Result<(), AllocError>
-    requires there { has_in (tree p.now) n ≡ true }
-    requires flat { depth + levels (kids_of (find (tree p.now) n)) ≤ 64 }
-    ensures { OnOk result (out.new.items ≡ out.old.items ++ lines depth (kids_of (find (tree p.now) n))) }
+    requires there { has_in (P.tree p.now) n ≡ true }
+    requires flat { depth + levels (kids_of (find (P.tree p.now) n)) ≤ 64 }
+    ensures { OnOk result (out.new.items ≡ out.old.items ++ lines depth (kids_of (find (P.tree p.now) n))) }
 {
     let mut at = p.first_child_of(n);
     while let Some(c) = at {
@@ -24,7 +24,7 @@ fn push_under<P: Page>(p: &P, n: usize, depth: usize, out: &mut Vec<u8>) -> Resu
 
 // The lines of a page.
 pub(crate) fn push_lines<P: Page>(p: &P, out: &mut Vec<u8>) -> Result<(), AllocError>
-    ensures { OnOk result (out.new.items ≡ out.old.items ++ lines 0 (tree p.now)) }
+    ensures { OnOk result (out.new.items ≡ out.old.items ++ lines 0 (P.tree p.now)) }
 {
     let root = p.root();
     push_line(p, root, 0, out)?;

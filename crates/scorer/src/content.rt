@@ -41,7 +41,7 @@ pub fn content_score_by(under: &Under) -> usize
 // Whether n qualifies: at least 20 in trimmed length under it, and a p, or a div, article, center or section with no
 // element below that makes a block of it.
 pub fn qualifies<P: Page>(p: &P, n: usize) -> bool
-    ensures { result ≡ qualifies_in (find (tree p.now) n) }
+    ensures { result ≡ qualifies_in (find (P.tree p.now) n) }
 {
     if p.has(n) {
         qualifies_by(tag_of(p, n), &under_of(p, n))
@@ -52,8 +52,8 @@ pub fn qualifies<P: Page>(p: &P, n: usize) -> bool
 
 // The content score of what is under n.
 pub fn content_score<P: Page>(p: &P, n: usize) -> usize
-    ensures value { result ≡ content_score (find (tree p.now) n) }
-    ensures matches { Scored (scalars_of (deep (kids_of (find (tree p.now) n)))) result }
+    ensures value { result ≡ content_score (find (P.tree p.now) n) }
+    ensures matches { Scored (scalars_of (deep (kids_of (find (P.tree p.now) n)))) result }
 {
     content_score_by(&under_of(p, n))
 }

@@ -23,8 +23,8 @@ fn gained(positive: bool, negative: bool) -> i32
 
 // The weight of the first attribute of a name.
 fn weight_of<P: Page>(p: &P, n: usize, name: &[u8]) -> i32
-    requires { has (tree p.now) n ≡ true }
-    ensures value { result ≡ value_weight (value_of (attrs_of (find (tree p.now) n)) name.now) }
+    requires { has (P.tree p.now) n ≡ true }
+    ensures value { result ≡ value_weight (value_of (attrs_of (find (P.tree p.now) n)) name.now) }
     ensures low { negsuc 24 ≤ℤ result }
     ensures high { result ≤ℤ pos 25 }
 {
@@ -38,7 +38,7 @@ fn weight_of<P: Page>(p: &P, n: usize, name: &[u8]) -> i32
 
 // The weight of n, by its first id and its first class.
 pub fn get_class_weight<P: Page>(p: &P, n: usize) -> i32
-    ensures value { result ≡ class_weight (attrs_of (find (tree p.now) n)) }
+    ensures value { result ≡ class_weight (attrs_of (find (P.tree p.now) n)) }
     ensures low { negsuc 49 ≤ℤ result }
     ensures high { result ≤ℤ pos 50 }
 {
@@ -71,7 +71,7 @@ fn tag_points(tag: Tag) -> i32
 
 // The points that n starts with as a candidate.
 pub fn starting_points<P: Page>(p: &P, n: usize) -> i32
-    ensures { result ≡ starting_points (find (tree p.now) n) }
+    ensures { result ≡ starting_points (find (P.tree p.now) n) }
 {
     if !p.has(n) {
         return 0;

@@ -88,6 +88,6 @@ pub returns : goal.returns
 returns g t c =
     let T = g.P.Page.tree c.args.p.now in
     record {
-      value = sym (plus_none c.loop-at.sum) ∙ (ap (λ r. plus c.loop-at.sum (under_of (from T r))) (sym c.in-default.is) ∙ c.loop-at.invariant.1);
-      after = ap (λ r. fill_all (from T r) c.loop-at.table) (sym c.in-default.is) ∙ c.loop-at.invariant.2;
+      value = sym (plus_none c.loop-at.sum) ∙ (ap (λ r. plus c.loop-at.sum (under_of (from T r))) (sym c.in_default.is) ∙ c.loop-at.invariant.1);
+      after = ap (λ r. fill_all (from T r) c.loop-at.table) (sym c.in_default.is) ∙ c.loop-at.invariant.2;
     }

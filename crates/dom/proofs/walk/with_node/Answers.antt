@@ -39,6 +39,6 @@ pub returns-in_default : goal.returns-in_default
 returns-in_default g c =
     let t = g.P.Page.tree c.args.p.now in
     let f = find t c.args.n in
-    let other : Some Text ≡ kind_of f → ⊥ = λ e. let k = c.kind_of.ensures c.requires.there in let z : c.kind_of.result ≡ Text = cc in c.in-default.not-Text z in
+    let other : Some Text ≡ kind_of f → ⊥ = λ e. let k = c.kind_of.ensures c.requires.there in let z : c.kind_of.result ≡ Text = cc in c.in_default.not-Text z in
     c.in_element-in_default.ensures
     ∙ (ap (λ v. element_of v c.args.inner.now) (c.tag_of.ensures c.requires.there) ∙ sym (other-node f c.args.inner.now c.args.n (head-find t c.args.n c.requires.there) other))

@@ -47,5 +47,5 @@ pub returns : goal.returns
 returns g c =
     let xs = held (g.P.Page.tree c.args.p.now) c.args.n Content in
     let N = string_bytes c.loop-c.name in
-    let none = scalars_of-none (drop c.loop-c.at xs) (sym (c.char_of.ensures.value c.requires) ∙ c.in-default.is) in
+    let none = scalars_of-none (drop c.loop-c.at xs) (sym (c.char_of.ensures.value c.requires) ∙ c.in_default.is) in
     sym (append-nil N) ∙ (ap (λ cs. N ++ encodes (map lowered cs)) (sym none) ∙ c.loop-c.invariant.1)

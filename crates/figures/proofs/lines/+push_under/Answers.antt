@@ -77,4 +77,4 @@ pub returns : goal.returns
 returns g t c =
     let T = g.P.Page.tree c.args.p.now in
     let O = vec_items c.loop-at.out in
-    sym (append-nil O) ∙ (ap (λ r. O ++ point_lines (from T r)) (sym c.in-default.is) ∙ c.loop-at.invariant.1)
+    sym (append-nil O) ∙ (ap (λ r. O ++ point_lines (from T r)) (sym c.in_default.is) ∙ c.loop-at.invariant.1)

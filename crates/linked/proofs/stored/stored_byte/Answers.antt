@@ -33,7 +33,7 @@ returns-in-Name g c ok h =
     let e = c.attr_of-a.ensures (omega (arith, ap (λ y. y.attrs) c.node-x.ensures, some)) ∙ ap (λ y. attr_at t (y.first + j)) c.node-x.ensures in
     let k = attr_at t (x.first + j) in
     let bytes = ap (λ b. byte_in b i) (ap (λ q. part_of (find (tree_of t) n) q) c.in-Name.is ∙ name-there t a n l j some) in
-    let is = c.part_in-Name.ensures ∙ ap (λ y. part t y.start y.name) e in
+    let is = c.part-in-Name.ensures ∙ ap (λ y. part t y.start y.name) e in
     ap Some (c.byte_at-in-Name.ensures ∙ ap (λ b. get_or b i 0) is) ∙ (nth_read (part t k.start k.name) i (ap is_some (sym bytes) ∙ h) ∙ sym bytes)
 
 pub returns-in-Value : goal.returns-in-Value
@@ -50,5 +50,5 @@ returns-in-Value g c ok h =
     let e = c.attr_of-a-in-Value.ensures (omega (arith, ap (λ y. y.attrs) c.node-x.ensures, some)) ∙ ap (λ y. attr_at t (y.first + j)) c.node-x.ensures in
     let k = attr_at t (x.first + j) in
     let bytes = ap (λ b. byte_in b i) (ap (λ q. part_of (find (tree_of t) n) q) c.in-Value.is ∙ value_there t a n l j some) in
-    let is = c.part_in-Value.ensures ∙ ap (λ y. part t (y.start + y.name) y.value) e in
+    let is = c.part-in-Value.ensures ∙ ap (λ y. part t (y.start + y.name) y.value) e in
     ap Some (c.byte_at-in-Value.ensures ∙ ap (λ b. get_or b i 0) is) ∙ (nth_read (part t (k.start + k.name) k.value) i (ap is_some (sym bytes) ∙ h) ∙ sym bytes)

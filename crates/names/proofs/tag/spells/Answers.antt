@@ -13,7 +13,7 @@ pub returns-in_default : goal.returns-in_default
 returns-in_default g c s =
     let t = g.P.Page.tree c.args.p.now in
     let xs = held t c.args.n Content in
-    spells-short c.args.word.now xs c.loop-b.b-index c.loop-b.at (c.loop-b.invariant s) c.loop-b-test.true (sym c.in-default.is ∙ c.char_of.ensures.value s)
+    spells-short c.args.word.now xs c.loop-b.b-index c.loop-b.at (c.loop-b.invariant s) c.loop-b-test.true (sym c.in_default.is ∙ c.char_of.ensures.value s)
 
 pub returns-then-lower-b : goal.returns-then-lower-b
 returns-then-lower-b g c s =

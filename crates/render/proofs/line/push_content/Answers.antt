@@ -38,4 +38,4 @@ returns g c =
     let E = vec_items c.args.out.now in
     c.in_ok-push_quoted.ensures
     ∙ (ap (λ l. l ++ quoted (part_bytes f Content)) c.in_ok-push.ensures.items
-    ∙ (append_assoc E (32 ∷ []) (quoted (part_bytes f Content)) ∙ ap (λ l. E ++ l) (sym (some-content f c.kind_of.result (c.kind_of.ensures c.requires) c.in-default.not-Document))))
+    ∙ (append_assoc E (32 ∷ []) (quoted (part_bytes f Content)) ∙ ap (λ l. E ++ l) (sym (some-content f c.kind_of.result (c.kind_of.ensures c.requires) c.in_default.not-Document))))

@@ -17,7 +17,7 @@ weighed (Some v) h = refl
 pub returns-in_default : goal.returns-in_default
 returns-in_default g c =
     let f = find (g.P.Page.tree c.args.p.now) c.args.n in
-    let e = value_none (attrs_of f) c.args.name.now (sym (c.first_attr_of.ensures.index c.requires) ∙ c.in-default.is) in
+    let e = value_none (attrs_of f) c.args.name.now (sym (c.first_attr_of.ensures.index c.requires) ∙ c.in_default.is) in
     record { value = sym (ap value_weight e); low = search rules; high = search rules }
 
 pub returns : goal.returns

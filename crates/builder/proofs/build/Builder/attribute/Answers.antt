@@ -12,7 +12,7 @@ add_attribute-requires c =
     let b = c.args.self.now in
     attr-room (state_in b.store) c.args.name.now c.args.value.now b.sound (sym c.in_ok-ask_attribute.ensures)
 
-pub invariant-of-self : goal.invariant-of-self
-invariant-of-self c =
+pub invariant_of-self : goal.invariant_of-self
+invariant_of-self c =
     let b = c.args.self.now in
     (subst (λ (s : State). sound s ≡ true) (sym c.add_attribute.ensures) (stays-sound (state_in b.store) (attribute c.args.name.now c.args.value.now) b.sound (sym c.in_ok-ask_attribute.ensures)), tt)

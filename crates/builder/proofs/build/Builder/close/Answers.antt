@@ -18,8 +18,8 @@ at s n = record { nodes = s.nodes; attrs = s.attrs; bytes = s.bytes; used = s.us
 pub overflow_cast-self : goal.overflow_cast-self
 overflow_cast-self c = let b = c.args.self.now in let l = parent-before (state_in b.store) c.in-Some.p b.sound c.in-Some.is in search rules
 
-pub invariant-of-self : goal.invariant-of-self
-invariant-of-self c =
+pub invariant_of-self : goal.invariant_of-self
+invariant_of-self c =
     let b = c.args.self.now in
     let s = state_in b.store in
     let granted : answer s close ≡ None = ap (λ v. cond (not v) None (Some Misplaced)) (ne_eqb s.current 0 c.if-self-eq0.false) in

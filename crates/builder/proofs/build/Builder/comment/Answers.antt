@@ -12,7 +12,7 @@ add_node-requires c =
     let b = c.args.self.now in
     node-room (state_in b.store) c.args.content.now b.sound (sym c.in_ok-ask_node.ensures)
 
-pub invariant-of-self : goal.invariant-of-self
-invariant-of-self c =
+pub invariant_of-self : goal.invariant_of-self
+invariant_of-self c =
     let b = c.args.self.now in
     (subst (λ (s : State). sound s ≡ true) (sym c.add_node.ensures) (stays-sound (state_in b.store) (comment c.args.content.now) b.sound (sym c.in_ok-ask_node.ensures)), tt)

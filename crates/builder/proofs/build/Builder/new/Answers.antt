@@ -6,8 +6,8 @@ use Rattle.builder.specs.Law.{begun, Law}
 use Rattle.builder.proofs.Begun.{begun-sound, begun-law}
 use Rattle.builder.proofs.build.Builder.new.Goals as goal
 
-pub invariant-of-result : goal.invariant-of-result
-invariant-of-result c =
+pub invariant_of-result : goal.invariant_of-result
+invariant_of-result c =
     let xs = c.args.first.now in
     let some : 0 < length xs = omega arith in
     (subst (λ (s : State). sound s ≡ true) (sym c.begin.ensures) (begun-sound [] [] xs some), tt)

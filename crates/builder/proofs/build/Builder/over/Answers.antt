@@ -9,8 +9,8 @@ use Rattle.builder.proofs.build.Builder.over.Goals as goal
 pub returns-then-nodes-eq0 : goal.returns-then-nodes-eq0
 returns-then-nodes-eq0 c = record { answer = begin-full c.args.nodes.now c.if-nodes-eq0.true; state = refl; law = tt }
 
-pub invariant-of-self : goal.invariant-of-self
-invariant-of-self c =
+pub invariant_of-self : goal.invariant_of-self
+invariant_of-self c =
     let xs = c.args.nodes.now in
     let off = c.if-nodes-eq0.false in
     let some : 0 < length xs = omega arith in

@@ -12,8 +12,8 @@ use Rattle.builder.proofs.build.Builder.page.Goals as goal
 pub records-records-requires : goal.records-records-requires
 records-records-requires c = let b = c.args.self.now in let h = sound-is (state_in b.store) b.sound in record { nodes = h.nodes; attrs = h.attrs; bytes = h.bytes }
 
-pub invariant-of-result : goal.invariant-of-result
-invariant-of-result c =
+pub invariant_of-result : goal.invariant_of-result
+invariant_of-result c =
     let b = c.args.self.now in
     let s = state_in b.store in
     let h = sound-is s b.sound in

@@ -8,11 +8,11 @@ use Rattle.linked.proofs.accepted.LinkedPage.open.Goals as goal
 
 pub returns-in_err-check : goal.returns-in_err-check
 returns-in_err-check c =
-    let p = err_from_is_err_and c.from-residual.result c.from-residual.ensures.1 in
+    let p = err_from_is_err_and c.from_residual.result c.from_residual.ensures.1 in
     rw (p.1, p.2) (record { verdict = c.in_err-check.ensures; page = refl })
 
-pub invariant-of-self : goal.invariant-of-self
-invariant-of-self c =
+pub invariant_of-self : goal.invariant_of-self
+invariant_of-self c =
     let r = c.args.records in
     let a = accepted-linked r.nodes.now r.attrs.now r.bytes.now (sym c.in_ok-check.ensures) in
-    (a.0, (a.1, (c.deepest-height.ensures ∙ height-deepest (table_in r) (accepted (table_in r) a.0), tt)))
+    record { accepted = a.0; linked = a.1; tall = c.deepest-height.ensures ∙ height-deepest (table_in r) (accepted (table_in r) a.0) }

@@ -37,7 +37,7 @@ node-linked r i h =
 pub returns-in_err-check_counts : goal.returns-in_err-check_counts
 returns-in_err-check_counts c =
     let r = c.args.self.now in
-    let p = err_from_is_err_and c.from-residual.result c.from-residual.ensures.1 in
+    let p = err_from_is_err_and c.from_residual.result c.from_residual.ensures.1 in
     rw (p.1, p.2) (sym (counts-no r c.in_err-check_counts.field-0.0 (sym c.in_err-check_counts.ensures)))
 
 pub loop-i-init : goal.loop-i-init
@@ -67,7 +67,7 @@ returns-in_err-check_node c =
     let xs = r.nodes.now in
     let n = length xs in
     let i = c.loop-i.i in
-    let p = err_from_is_err_and c.from-residual-in_err-check_node.result c.from-residual-in_err-check_node.ensures.1 in
+    let p = err_from_is_err_and c.from_residual-in_err-check_node.result c.from_residual-in_err-check_node.ensures.1 in
     rw (p.1, p.2)
     (sym (nodes-say r c.in_ok-check_counts.ensures ∙ (c.loop-i.invariant.0 ∙ (ap (says r) (of-next i n c.loop-i-test.true)
     ∙ stays (answer xs (table_in r)) (of_node i) (of_nodes (i + 1) (n - (i + 1))) c.in_err-check_node.field-0.0 (sym c.in_err-check_node.ensures)))))

@@ -34,7 +34,7 @@ returns-in_default c =
     let i = c.args.i in
     let p = c.loop-x.p in
     let deep : depth_at t i ≤ depth_at t p = omega (arith, c.loop-x-test.true, ap (λ x. x.depth) c.node-depth.ensures, ap (λ x. x.depth) c.node.ensures) in
-    let root = sym (links-are xs t p (each_at (links_ok xs t) i p c.loop-x.invariant.0 c.requires.before)).up ∙ c.in-default.is in
+    let root = sym (links-are xs t p (each_at (links_ok xs t) i p c.loop-x.invariant.0 c.requires.before)).up ∙ c.in_default.is in
     sym (c.loop-x.invariant.1 ∙ above-out t (depth_at t i) p deep root)
 
 pub loop-x-smaller : goal.loop-x-smaller

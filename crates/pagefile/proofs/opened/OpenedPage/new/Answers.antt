@@ -51,33 +51,22 @@ empty-within t n e k j h = absurd (omega (arith, no_end n e k h.0, h.2))
 pub over-requires : goal.over-requires
 over-requires c = (counted, laid)
 
-pub invariant-of-result : goal.invariant-of-result
-invariant-of-result c =
+pub invariant_of-result : goal.invariant_of-result
+invariant_of-result c =
     let s = c.over.result in
     let e : s.file.now ≡ document = c.over.ensures in
     let n : s.counts.nodes ≡ 1 = ap (λ k. k.nodes) s.counted ∙ (ap (λ f. count f Nodes) e ∙ one) in
-    let t = table_of s.file.now in (
-      subst (λ (f : List ℕ). accepts (table_of f) ≡ true) (sym e) accepted,
-      (
-        n ∙ sym (ap (λ f. length (table_of f).nodes) e ∙ single),
-        (
-          (λ k h. absurd (let l = h.0 in let m = h.1 in omega arith)),
-          (
-            (λ k j h. absurd (let l = h.0 in let m = h.1 in omega arith)),
-            (
-              unclosed t s.counts.nodes n,
-              (
-                empty-within t s.counts.nodes n,
-                (
-                  (λ k j h. absurd (let l = h.1 in let m = h.2 in omega arith)),
-                  (sym (ap (λ f. height_of (tree_of (table_of f))) e ∙ ap height_of alone), tt),
-                ),
-              ),
-            ),
-          ),
-        ),
-      ),
-    )
+    let t = table_of s.file.now in
+    record {
+      accepted = subst (λ (f : List ℕ). accepts (table_of f) ≡ true) (sym e) accepted;
+      many = n ∙ sym (ap (λ f. length (table_of f).nodes) e ∙ single);
+      near = λ k h. absurd (let l = h.0 in let m = h.1 in omega arith);
+      level = λ k j h. absurd (let l = h.0 in let m = h.1 in omega arith);
+      closed = unclosed t s.counts.nodes n;
+      within = empty-within t s.counts.nodes n;
+      unended = λ k j h. absurd (let l = h.1 in let m = h.2 in omega arith);
+      tall = sym (ap (λ f. height_of (tree_of (table_of f))) e ∙ ap height_of alone);
+    }
 
 pub returns : goal.returns
 returns c = ap (λ f. tree_of (table_of f)) c.over.ensures ∙ alone

@@ -29,7 +29,7 @@ file-of f b h =
 pub returns-in_err-counts : goal.returns-in_err-counts
 returns-in_err-counts c =
     let f = c.args.file.now in
-    let p = err_from_is_err_and c.from-residual.result c.from-residual.ensures.1 in
+    let p = err_from_is_err_and c.from_residual.result c.from_residual.ensures.1 in
     let v = c.in_err-counts.ensures.refused in
     rw (p.1, p.2) (record { verdict = v; page = refl; exactly = none-fits f c.in_err-counts.field-0.0 v })
 
@@ -39,14 +39,23 @@ link-requires c =
     let yes = all-granted (answer f) (checks f) (sym c.in_ok-counts.ensures.refused) in
     subst (λ (g : List ℕ). accepts (table_of g) ≡ true) (sym c.over-sections.ensures) (accepts-table f yes)
 
-pub invariant-of-self : goal.invariant-of-self
-invariant-of-self c =
+pub invariant_of-self : goal.invariant_of-self
+invariant_of-self c =
     let s = c.over-sections.result in
     let f = s.file.now in
     let same = sym c.over-sections.ensures in
     let yes = subst (λ (g : List ℕ). granted (answer g) (checks g) ≡ true) same (all-granted (answer c.args.file.now) (checks c.args.file.now) (sym c.in_ok-counts.ensures.refused)) in
     let l = c.link.ensures in
-    (accepts-table f yes, (ap (λ k. k.nodes) s.counted ∙ sym (length-nodes f), (l.near, (l.level, (l.closed, (l.within, (l.unended, (c.deepest-height.ensures ∙ height-deepest (table_of f) (file-accepted f yes), tt))))))))
+    record {
+      accepted = accepts-table f yes;
+      many = ap (λ k. k.nodes) s.counted ∙ sym (length-nodes f);
+      near = l.near;
+      level = l.level;
+      closed = l.closed;
+      within = l.within;
+      unended = l.unended;
+      tall = c.deepest-height.ensures ∙ height-deepest (table_of f) (file-accepted f yes);
+    }
 
 pub returns : goal.returns
 returns c =

@@ -42,5 +42,5 @@ returns-in-Value c h =
     let there = subst (λ q. is_some (part_of (find (tree_of t) n) q) ≡ true) c.in-Value.is h in
     let some : j < x.attrs = value-inside t a n l j there in
     let here = ap (λ y. y.attrs) c.node-x.ensures in
-    let e = c.attr_in-Value.ensures (omega (arith, here, some)) ∙ ap (λ y. attr_at t (y.first + j)) c.node-x.ensures in
+    let e = c.attr-in-Value.ensures (omega (arith, here, some)) ∙ ap (λ y. attr_at t (y.first + j)) c.node-x.ensures in
     ap (λ y. Some y.value) e ∙ sym (ap (λ q. length_in (part_of (find (tree_of t) n) q)) c.in-Value.is ∙ value-length t a n l j some)
