@@ -25,4 +25,4 @@ invariant_of-self c =
     let granted : answer s close ≡ None = ap (λ v. cond (not v) None (Some Misplaced)) (ne_eqb s.current 0 c.if-self-eq0.false) in
     let up : c.match-x.self ≡ unwrap_or (open_node s).parent 0 =
     elim c.match-x.branch [ in-Some w ↦ w.self-is ∙ ap (λ o. unwrap_or o 0) (sym w.in-Some.is) | in-None w ↦ w.self-is ∙ ap (λ o. unwrap_or o 0) (sym w.in-None.is) ] in
-    (subst (λ n. sound (at s n) ≡ true) (sym up) (stays-sound s close b.sound granted), tt)
+    record { sound = subst (λ n. sound (at s n) ≡ true) (sym up) (stays-sound s close b.sound granted) }

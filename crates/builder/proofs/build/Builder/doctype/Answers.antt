@@ -15,4 +15,4 @@ add_node-requires c =
 pub invariant_of-self : goal.invariant_of-self
 invariant_of-self c =
     let b = c.args.self.now in
-    (subst (λ (s : State). sound s ≡ true) (sym c.add_node.ensures) (stays-sound (state_in b.store) (doctype c.args.content.now) b.sound (sym c.in_ok-ask_node.ensures)), tt)
+    record { sound = subst (λ (s : State). sound s ≡ true) (sym c.add_node.ensures) (stays-sound (state_in b.store) (doctype c.args.content.now) b.sound (sym c.in_ok-ask_node.ensures)) }

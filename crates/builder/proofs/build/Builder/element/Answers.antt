@@ -17,4 +17,4 @@ pub invariant_of-self : goal.invariant_of-self
 invariant_of-self c =
     let b = c.args.self.now in
     let n = b.store.used.nodes in
-    (subst (λ (s : State). sound (inside s n) ≡ true) (sym c.add_node.ensures) (stays-sound (state_in b.store) (element c.args.name.now) b.sound (sym c.in_ok-ask_node.ensures)), tt)
+    record { sound = subst (λ (s : State). sound (inside s n) ≡ true) (sym c.add_node.ensures) (stays-sound (state_in b.store) (element c.args.name.now) b.sound (sym c.in_ok-ask_node.ensures)) }

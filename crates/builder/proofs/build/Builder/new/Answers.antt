@@ -10,7 +10,7 @@ pub invariant_of-result : goal.invariant_of-result
 invariant_of-result c =
     let xs = c.args.first.now in
     let some : 0 < length xs = omega arith in
-    (subst (λ (s : State). sound s ≡ true) (sym c.begin.ensures) (begun-sound [] [] xs some), tt)
+    record { sound = subst (λ (s : State). sound s ≡ true) (sym c.begin.ensures) (begun-sound [] [] xs some) }
 
 pub returns : goal.returns
 returns c =

@@ -14,7 +14,7 @@ invariant_of-self c =
     let xs = c.args.nodes.now in
     let off = c.if-nodes-eq0.false in
     let some : 0 < length xs = omega arith in
-    (subst (λ (s : State). sound s ≡ true) (sym c.begin.ensures) (begun-sound c.args.attrs.now c.args.bytes.now xs some), tt)
+    record { sound = subst (λ (s : State). sound s ≡ true) (sym c.begin.ensures) (begun-sound c.args.attrs.now c.args.bytes.now xs some) }
 
 pub returns : goal.returns
 returns c =

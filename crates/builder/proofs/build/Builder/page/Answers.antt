@@ -18,10 +18,12 @@ invariant_of-result c =
     let s = state_in b.store in
     let h = sound-is s b.sound in
     let r = c.records-records.ensures in
-    let same : table_in c.records-records.result ≡ used_table s = λ q. table_of (r.nodes q) (r.attrs q) (r.bytes q) in (
-      ap accepts same ∙ h.accepted,
-      ((λ q. all_linked (r.nodes q) (same q)) ∙ h.linked, (h.height ∙ (height-deepest (used_table s) (table-accepted s h) ∙ ap (λ (t : Table). height_of (tree_of t)) (sym same)), tt)),
-    )
+    let same : table_in c.records-records.result ≡ used_table s = λ q. table_of (r.nodes q) (r.attrs q) (r.bytes q) in
+    record {
+      accepted = ap accepts same ∙ h.accepted;
+      linked = (λ q. all_linked (r.nodes q) (same q)) ∙ h.linked;
+      tall = h.height ∙ (height-deepest (used_table s) (table-accepted s h) ∙ ap (λ (t : Table). height_of (tree_of t)) (sym same));
+    }
 
 pub returns : goal.returns
 returns c =
