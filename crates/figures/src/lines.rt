@@ -18,7 +18,7 @@ fn push_under<P: Page>(
     out: &mut Vec<u8>,
 ) -> Result<(), AllocError>
     requires there { has_in (P.tree p.now) n ≡ true }
-    requires long { limit p.now ≤ length table.now }
+    requires long { P.limit p.now ≤ length table.now }
     requires measured { Measured (P.tree p.now) table.now }
     ensures { OnOk result (out.new.items ≡ out.old.items ++ point_lines (kids_of (find (P.tree p.now) n))) }
 {
@@ -38,7 +38,7 @@ pub(crate) fn push_points<P: Page>(
     table: &[Under],
     out: &mut Vec<u8>,
 ) -> Result<(), AllocError>
-    requires long { limit p.now ≤ length table.now }
+    requires long { P.limit p.now ≤ length table.now }
     requires measured { Measured (P.tree p.now) table.now }
     ensures { OnOk result (out.new.items ≡ out.old.items ++ point_lines (P.tree p.now)) }
 {

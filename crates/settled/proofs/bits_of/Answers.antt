@@ -9,5 +9,5 @@ finite_number nan h = h
 finite_number (inf s) h = tt
 finite_number (fin s m e) h = tt
 
-pub float-to_bits-result : goal.float-to_bits-result
-float-to_bits-result c = finite_number c.settle.result.value c.settle.ensures.finite
+pub float_to_bits-result : goal.float_to_bits-result
+float_to_bits-result c = finite_number c.settle.result.value c.settle.ensures.finite
