@@ -1,13 +1,12 @@
 -- What joining and writing answer.
-use Rattle.std.proofs.Common.{◌≡◌, ℕ, ◌+◌, ◌<◌, ◌≤◌, Bool, true, false, cond, leb, List, length, take, drop, is_some, Some, None, Ok, Err, Option, Result, unwrap_or, sym, refl, ap, ◌∙◌, subst, arith}
+use Rattle.std.proofs.Common.{◌≡◌, ℕ, ◌+◌, ◌≤◌, Bool, true, false, cond, leb, List, length, take, is_some, Some, None, Ok, Err, Option, Result, unwrap_or, sym, refl, ap, subst, arith}
 use Rattle.std.proofs.lemmas.List.{length-take}
-use Rattle.std.proofs.lemmas.Bool.{cond-true, cond-false, and_parts, leb-true, le-leb}
+use Rattle.std.proofs.lemmas.Bool.{cond-true, and_parts, leb-true, le-leb}
 use Rattle.std.specs.Option.{ok_or}
-use Rattle.uri.specs.Laws.{Laws}
 use Rattle.uri.specs.Write.{placed, write_answer, in_room, Lawful as Resolved}
 use Rattle.address.specs.Answers.{join_answer, join_out, Lawful}
 use Rattle.address.specs.declared.joining.NoJoin.{NoJoin}
-use Rattle.address.specs.declared.joining.NoJoin.TheVariants.{Reference, Room}
+use Rattle.address.specs.declared.joining.NoJoin.TheVariants.{Room}
 use Rattle.uri.proofs.TargetLaws.{laws, written-laws}
 use Rattle.uri.specs.Resolve.{resolved}
 use Rattle.address.specs.Join.{visible, each, joinable, joined, stays_as_is, written}

@@ -1,13 +1,13 @@
 -- A base by its components is a base by its bytes.
-use Rattle.std.proofs.Common.{◌≡◌, ℕ, ◌<◌, ◌≤◌, Bool, true, false, cond, not, ◌&&◌, ◌||◌, eqb, leb, List, [], ◌∷◌, ◌++◌, length, is_some, IfSome, Some, None, Ok, Err, codes, Decides, Option, Result, sym, refl, ap, ◌∙◌, subst, append_assoc, arith, MatchResult}
+use Rattle.std.proofs.Common.{◌≡◌, ℕ, ◌≤◌, Bool, true, false, cond, not, ◌&&◌, leb, List, [], ◌∷◌, ◌++◌, length, is_some, IfSome, Some, None, Ok, Err, codes, Decides, Option, Result, sym, refl, ap, ◌∙◌, subst, append_assoc, arith, MatchResult}
 use Rattle.std.proofs.lemmas.Bool.{both_ways, and_parts, and_from, leb-true, le-leb}
 use Rattle.std.proofs.lemmas.Bool.Decides.{nat_tests}
 use Rattle.std.proofs.ByRecursion.{Decides-by_and}
 use Rattle.address.specs.declared.refusal.BaseRefusal.{BaseRefusal}
 use Rattle.address.specs.declared.refusal.BaseRefusal.TheVariants.{NotABase}
 use Rattle.std.specs.List.{AllByRecursion as All}
-use Rattle.uri.specs.Bytes.{among, front, rest, after}
-use Rattle.uri.specs.Components.{Parts, scheme_cut, opened, authority_cut, query_cut, from_path, components}
+use Rattle.uri.specs.Bytes.{among, after}
+use Rattle.uri.specs.Components.{Parts, scheme_cut, authority_cut, from_path, components}
 use Rattle.address.specs.Join.{visible, each, letter, scheme_byte, is_scheme_name, is_scheme, is_authority, shaped, is_base}
 use Rattle.uri.specs.Laws.{Formed}
 use Rattle.uri.specs.Resolve.{is_empty, closed, led, recompose}

@@ -1,33 +1,32 @@
 -- One node more: the records are those of one row more, the links match, and the state stays sound.
-use Rattle.std.proofs.Common.{◌≡◌, ℕ, zero, suc, ◌+◌, ◌-◌, ◌<◌, ◌≤◌, min, max, Bool, true, false, cond, not, ◌&&◌, ◌||◌, eqb, ltb, leb, ◌≢◌, ◌⊎◌, List, [], ◌∷◌, ◌++◌, map, length, get_or, take, drop, set, Some, None, Option, sym, refl, ap, ◌∙◌, subst, inl, inr, append_assoc, append-nil, add-one, arith, length-append, length-drop, length-set, length-take-le, get_or-set_other, get_or-take, get_or-set_same, take-suc-set, take_at}
-use lib.Seq.{take-set-lt, map-set_same, get_or_at, get_or-append_seam}
+use Rattle.std.proofs.Common.{◌≡◌, ℕ, zero, suc, ◌+◌, ◌-◌, ◌<◌, ◌≤◌, max, Bool, true, false, cond, eqb, ltb, ◌≢◌, ◌⊎◌, List, [], ◌∷◌, ◌++◌, length, get_or, take, drop, set, Some, None, Option, sym, refl, ap, ◌∙◌, subst, inl, inr, append_assoc, append-nil, add-one, arith, length-append, length-drop, length-set, length-take-le, get_or-set_other, get_or-take, get_or-set_same, take-suc-set, take_at}
+use lib.Seq.{take-set-lt, map-set_same, get_or_at}
 use Rattle.std.proofs.lemmas.List.{map-append, get_or_past, get_or_append_left}
-use Rattle.std.proofs.lemmas.Bool.{and_parts, and_from, or_cases, leb-true, ltb-true, eqb-true, both_ways, cases_lt, cases_eq, cases_order, cond-true, cond-false, lt-ltb, le-ltb}
+use Rattle.std.proofs.lemmas.Bool.{or_cases, eqb-true, cases_lt, cases_eq, cases_order, cond-true, cond-false, lt-ltb, le-ltb}
 use Rattle.utf8.specs.Table.{well_formed}
 use Rattle.page.specs.declared.kind.NodeKind.{NodeKind}
 use Rattle.page.specs.declared.kind.NodeKind.TheVariants.{Document, Doctype, Text, Comment, Element}
-use Rattle.page.specs.Kinds.{code, is_element, is_document}
+use Rattle.page.specs.Kinds.{code, is_document}
 use Rattle.table.specs.declared.record.NodeRecord.{NodeRecord}
 use Rattle.table.specs.Rows.{Row, is_parent, reach, bare}
 use Rattle.table.specs.Table.{Table, no_node, node_at, kind_with, row_at, rows_from, rows_of}
 use Rattle.table.specs.Checks.{is_parent_code, accepts}
 use Rattle.table.specs.Tabulate.{bytes_of, all_bytes, tabulate}
 use Rattle.table.specs.Links.{depth_at, deepest}
-use Rattle.table.proofs.Accepted.{Accepted, length-rows_of}
+use Rattle.table.proofs.Accepted.{length-rows_of}
 use Rattle.table.proofs.Tabulated.{tabulated}
-use Rattle.table.proofs.Reread.{attr_count, RowsFit, reread, length-all_attrs}
+use Rattle.table.proofs.Reread.{RowsFit, reread}
 use Rattle.linked.specs.declared.node.LinkedNode.{LinkedNode}
-use Rattle.linked.specs.Links.{first_at, parent_link, child_link, sibling_link}
-use Rattle.linked.specs.Records.{no_linked, records_of, table_of, links_ok, all_linked}
-use Rattle.linked.proofs.Lists.{node_at_lem}
-use Rattle.linked.proofs.Linked.{Linked, links-are, are-links, linked-at}
+use Rattle.linked.specs.Links.{first_at, child_link, sibling_link}
+use Rattle.linked.specs.Records.{no_linked, records_of, links_ok}
+use Rattle.linked.proofs.Linked.{Linked, are-links, linked-at}
 use Rattle.linked.proofs.Depths.{Above, is-above}
-use Rattle.builder.specs.State.{State, used_nodes, used_attrs, used_bytes, used_table}
+use Rattle.builder.specs.State.{State, used_nodes, used_table}
 use Rattle.builder.specs.Events.{row}
-use Rattle.builder.specs.After.{open_node, next_depth, put, with_child, with_next, enter, new_node, with_node, inside}
-use Rattle.builder.proofs.Snoc.{rows_fit, rows_last, behind, tabulate-snoc, last_reach, last-reach, Next, fit-snoc}
+use Rattle.builder.specs.After.{next_depth, put, with_child, with_next, enter, new_node, with_node, inside}
+use Rattle.builder.proofs.Snoc.{rows_fit, rows_last, behind, tabulate-snoc, last_reach, last-reach, fit-snoc}
 use Rattle.builder.proofs.Depths.{parent-same, child-same, sibling-kept, sibling-new, sibling-none}
-use Rattle.builder.proofs.Sound.{each_from, Deeper, Last, Sound, used-nodes, table-nodes, used-attrs, used-bytes, table-accepted, node_in_lem, open_in}
+use Rattle.builder.proofs.Sound.{each_from, Deeper, Last, Sound, used-nodes, table-nodes, used-attrs, used-bytes, table-accepted, open_in}
 
 -- bytes that were put, as far as they reach
 pub take_put : (l : List ℕ) (at : ℕ) (c : List ℕ) → at ≤ length l → take (at + length c) (put l at c) ≡ take at l ++ c

@@ -1,18 +1,15 @@
 -- One attribute more of the last node, which is an open element.
-use Rattle.std.proofs.Common.{◌≡◌, ℕ, zero, suc, ◌+◌, ◌-◌, ◌<◌, ◌≤◌, max, Bool, true, false, cond, ◌&&◌, ◌||◌, ltb, ◌≢◌, ◌⊎◌, List, [], ◌∷◌, ◌++◌, map, length, get_or, take, set, Some, None, Option, sym, refl, ap, ◌∙◌, subst, inl, inr, append_assoc, append-nil, add-one, arith, length-append, length-set, length-take-le, get_or-set_other, get_or-take, get_or-set_same, take-suc-set}
+use Rattle.std.proofs.Common.{◌≡◌, ℕ, zero, suc, ◌+◌, ◌<◌, ◌≤◌, true, cond, ltb, ◌≢◌, ◌⊎◌, List, [], ◌∷◌, ◌++◌, length, get_or, take, set, Some, None, sym, refl, ap, ◌∙◌, subst, inl, inr, append_assoc, add-one, arith, length-append, length-set, length-take-le, get_or-set_other, get_or-take, get_or-set_same, take-suc-set}
 use lib.Seq.{take-set-lt, map-set, get_or_at, set_at}
-use Rattle.std.proofs.lemmas.List.{get_or_past}
-use Rattle.std.proofs.lemmas.Bool.{cases_lt, cases_eq}
+use Rattle.std.proofs.lemmas.Bool.{cases_eq}
 use Rattle.utf8.specs.Table.{well_formed}
 use Rattle.page.specs.declared.kind.NodeKind.TheVariants.{Element}
-use Rattle.page.specs.Kinds.{code}
 use Rattle.page.specs.Kept.{AttrsFormed}
 use Rattle.table.specs.declared.record.NodeRecord.{NodeRecord}
-use Rattle.table.specs.declared.record.AttrRecord.{AttrRecord}
-use Rattle.table.specs.Rows.{Row, RowsFormed}
+use Rattle.table.specs.Rows.{Row}
 use Rattle.table.specs.Table.{Table, no_node, node_at, part, kind_with, attrs_from, row_at, rows_from, rows_of}
 use Rattle.table.specs.Checks.{is_parent_code, accepts}
-use Rattle.table.specs.Tabulate.{joined, bytes_of, node_records, attr_records, all_attrs, all_bytes, tabulate}
+use Rattle.table.specs.Tabulate.{joined, bytes_of, attr_records, tabulate}
 use Rattle.table.specs.Links.{depth_at, deepest}
 use Rattle.table.proofs.Accepted.{Accepted}
 use Rattle.table.proofs.Tabulated.{tabulated}
@@ -21,12 +18,12 @@ use Rattle.linked.specs.declared.node.LinkedNode.{LinkedNode}
 use Rattle.linked.specs.Links.{child_link}
 use Rattle.linked.specs.Records.{no_linked, records_of, links_ok}
 use Rattle.linked.proofs.Linked.{Linked, are-links, linked-at}
-use Rattle.builder.specs.State.{State, used_nodes, used_attrs, used_bytes, used_table}
+use Rattle.builder.specs.State.{State, used_nodes, used_table}
 use Rattle.builder.specs.Events.{row}
-use Rattle.builder.specs.After.{open_node, put, one_more, with_attr}
+use Rattle.builder.specs.After.{open_node, one_more, with_attr}
 use Rattle.builder.proofs.Snoc.{rows_fit, rows_last, record_behind, behind, tabulate-snoc, attr_records-snoc, joined_snoc, formed-parts, fit-attrs}
 use Rattle.builder.proofs.Depths.{parent-same, sibling-same}
-use Rattle.builder.proofs.Sound.{each_from, Deeper, Last, Sound, used-nodes, table-nodes, used-attrs, used-bytes, table-accepted, open_in}
+use Rattle.builder.proofs.Sound.{each_from, Last, Sound, used-nodes, table-nodes, used-attrs, used-bytes, table-accepted, open_in}
 use Rattle.builder.proofs.Adding.{take_put, length-put, deepest-snoc}
 
 formed-snoc : (xs : List (List ℕ × List ℕ)) (a : List ℕ × List ℕ) → AttrsFormed xs → well_formed a.0 ≡ true → well_formed a.1 ≡ true → AttrsFormed (xs ++ (a ∷ []))

@@ -1,15 +1,13 @@
 -- A builder that was just given its records is sound, and the law holds of it.
-use Rattle.std.proofs.Common.{◌≡◌, ℕ, suc, ◌<◌, true, leb, List, [], ◌∷◌, length, Some, None, sym, refl, ap, ◌∙◌, subst, arith}
+use Rattle.std.proofs.Common.{◌≡◌, ℕ, suc, ◌<◌, true, leb, List, [], ◌∷◌, length, Some, None, refl, arith}
 use Rattle.std.proofs.lemmas.Bool.{and_from, le-leb}
 use Rattle.table.specs.declared.record.AttrRecord.{AttrRecord}
-use Rattle.table.specs.Table.{rows_of}
 use Rattle.linked.specs.declared.node.LinkedNode.{LinkedNode}
 use Rattle.builder.specs.declared.refusal.BuildRefusal.TheVariants.{Full}
-use Rattle.builder.specs.State.{State, used_table}
-use Rattle.builder.specs.Events.{Event, event_rows}
+use Rattle.builder.specs.Events.{Event}
 use Rattle.builder.specs.Sound.{sound}
 use Rattle.builder.specs.Law.{begun, begin_answer, Law}
-use Rattle.builder.proofs.Sound.{Sound, sound-is}
+use Rattle.builder.proofs.Sound.{sound-is}
 use Rattle.builder.proofs.Law.{Told, law}
 
 module _ (attrs : List AttrRecord) (bytes : List ℕ) where

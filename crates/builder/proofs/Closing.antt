@@ -1,12 +1,12 @@
 -- The innermost open node is closed: its parent is open, and it is the last child.
-use Rattle.std.proofs.Common.{◌≡◌, ℕ, zero, suc, ◌+◌, ◌-◌, ◌<◌, ◌≤◌, Bool, true, false, cond, ◌&&◌, ◌||◌, eqb, leb, ◌⊎◌, length, get_or, Some, None, Option, unwrap_or, sym, refl, ap, ◌∙◌, subst, inl, inr, arith, get_or-take}
+use Rattle.std.proofs.Common.{◌≡◌, ℕ, suc, ◌+◌, ◌-◌, ◌<◌, ◌≤◌, true, ◌&&◌, ◌||◌, eqb, leb, ◌⊎◌, length, Some, None, Option, unwrap_or, sym, refl, ap, ◌∙◌, subst, inl, inr, arith, get_or-take}
 use Rattle.std.proofs.lemmas.Bool.{and_parts, or_cases, leb-true, eqb-true, ne_eqb, cases_eq, cases_order, cond-false}
 use Rattle.table.specs.Table.{Table, node_at}
-use Rattle.table.specs.Checks.{depth_ok, is_parent_code}
+use Rattle.table.specs.Checks.{is_parent_code}
 use Rattle.table.specs.Links.{depth_at}
 use Rattle.table.proofs.Accepted.{Accepted, root-depth, later-depth}
 use Rattle.linked.specs.declared.node.LinkedNode.{LinkedNode}
-use Rattle.linked.specs.Links.{last_above, parent_link}
+use Rattle.linked.specs.Links.{parent_link}
 use Rattle.linked.specs.Records.{no_linked}
 use Rattle.linked.proofs.Linked.{linked-at}
 use Rattle.linked.proofs.Depths.{Above, above-is, none_above}

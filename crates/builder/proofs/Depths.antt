@@ -1,10 +1,10 @@
 -- One node more: the links that the depths mean.
-use Rattle.std.proofs.Common.{◌≡◌, ℕ, zero, suc, ◌+◌, ◌-◌, ◌<◌, ◌≤◌, Bool, true, false, cond, eqb, ltb, ◌⊎◌, length, Some, None, Option, sym, refl, ap, ◌∙◌, subst, inl, inr, arith}
-use Rattle.std.proofs.lemmas.Bool.{cases_lt, cases_eq, cases_order}
+use Rattle.std.proofs.Common.{◌≡◌, ℕ, zero, suc, ◌+◌, ◌-◌, ◌<◌, ◌≤◌, cond, eqb, ltb, ◌⊎◌, length, Some, None, sym, refl, ap, ◌∙◌, inl, inr, arith}
+use Rattle.std.proofs.lemmas.Bool.{cases_eq, cases_order}
 use Rattle.table.specs.Table.{Table}
 use Rattle.table.specs.Links.{depth_at}
 use Rattle.linked.specs.Links.{last_above, first_at, parent_link, child_link, sibling_link}
-use Rattle.linked.proofs.Depths.{Above, above-here, above-skip, at-deeper, at_here, at-higher}
+use Rattle.linked.proofs.Depths.{at-deeper, at_here, at-higher}
 
 -- the first n nodes of u stand as deep as those of t
 module _ (t u : Table) (n : ℕ) (same : (i : ℕ) → i < n → depth_at u i ≡ depth_at t i) where

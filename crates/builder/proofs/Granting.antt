@@ -1,15 +1,15 @@
 -- An event that is answered yes keeps a state sound.
-use Rattle.std.proofs.Common.{◌≡◌, ℕ, ◌+◌, ◌<◌, ◌≤◌, min, Bool, true, false, cond, not, ◌&&◌, eqb, ltb, leb, List, [], ◌∷◌, length, Some, None, Option, sym, refl, ap, ◌∙◌, subst, arith}
+use Rattle.std.proofs.Common.{◌≡◌, ℕ, ◌+◌, ◌<◌, Bool, true, false, not, ◌&&◌, eqb, leb, List, [], ◌∷◌, length, None, refl, subst, arith}
 use Rattle.std.proofs.lemmas.Bool.{and_parts, leb-true, ltb-true, eqb-false, not-true}
 use Rattle.utf8.specs.Table.{well_formed}
 use Rattle.page.specs.declared.kind.NodeKind.{NodeKind}
-use Rattle.page.specs.declared.kind.NodeKind.TheVariants.{Document, Doctype, Text, Comment, Element}
+use Rattle.page.specs.declared.kind.NodeKind.TheVariants.{Doctype, Text, Comment, Element}
 use Rattle.page.specs.Kinds.{is_document}
 use Rattle.builder.specs.declared.refusal.BuildRefusal.{BuildRefusal}
 use Rattle.builder.specs.declared.refusal.BuildRefusal.TheVariants.{Misplaced, Full, TooDeep, IllFormed}
 use Rattle.builder.specs.State.{State, used_table}
 use Rattle.builder.specs.Events.{Event, element, attribute, text, comment, doctype, close}
-use Rattle.builder.specs.After.{next_depth, node_free, attr_free, bytes_free, narrow, of_node, first_no, answer, granted, unless, after}
+use Rattle.builder.specs.After.{next_depth, node_free, attr_free, bytes_free, narrow, of_node, first_no, answer, granted}
 use Rattle.builder.specs.Sound.{sound}
 use Rattle.builder.proofs.Sound.{Last, Fresh, Sound, sound-is, is-sound}
 use Rattle.builder.proofs.Adding.{Granted, added-sound, opened-sound}

@@ -1,20 +1,19 @@
 -- The law over every list of events.
-use Rattle.std.proofs.Common.{◌≡◌, ℕ, suc, ◌+◌, ◌-◌, ◌<◌, Bool, true, false, List, [], ◌∷◌, ◌++◌, Some, None, Option, sym, refl, ap, ◌∙◌, subst, append_assoc, append-nil, add-one, arith}
+use Rattle.std.proofs.Common.{◌≡◌, ℕ, suc, ◌+◌, true, false, List, [], ◌∷◌, ◌++◌, Some, None, Option, sym, refl, ap, ◌∙◌, subst, append_assoc, append-nil, add-one, arith}
 use Rattle.page.specs.declared.kind.NodeKind.{NodeKind}
 use Rattle.page.specs.declared.kind.NodeKind.TheVariants.{Document, Doctype, Text, Comment, Element}
-use Rattle.page.specs.Kinds.{is_document}
-use Rattle.table.specs.Rows.{Row, parse}
-use Rattle.table.specs.Table.{Table, rows_of}
+use Rattle.table.specs.Rows.{parse}
+use Rattle.table.specs.Table.{rows_of}
 use Rattle.table.specs.Links.{depth_at}
 use Rattle.table.proofs.Accepted.{table-formed}
 use Rattle.table.proofs.Round.{rows_of-tree}
 use Rattle.linked.proofs.Verdict.{linked-accepted}
 use Rattle.builder.specs.declared.refusal.BuildRefusal.{BuildRefusal}
 use Rattle.builder.specs.State.{State, used_nodes, used_attrs, used_bytes, used_table}
-use Rattle.builder.specs.Events.{Event, element, attribute, text, comment, doctype, close, row, rows_at, event_rows, event_tree}
-use Rattle.builder.specs.After.{next_depth, of_node, first_no, answer, with_node, granted, unless, after, closed}
+use Rattle.builder.specs.Events.{Event, element, attribute, text, comment, doctype, close, row, rows_at, event_rows}
+use Rattle.builder.specs.After.{next_depth, answer, with_node, granted, unless}
 use Rattle.builder.specs.Law.{afters, kept, given_by, Law}
-use Rattle.builder.proofs.Sound.{Fresh, Sound, table-accepted, open_in}
+use Rattle.builder.proofs.Sound.{Sound, table-accepted, open_in}
 use Rattle.builder.proofs.Adding as adding
 use Rattle.builder.proofs.Adding.{Granted, added-rows, added-sound}
 use Rattle.builder.proofs.Attributing as attributing

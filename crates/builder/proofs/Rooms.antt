@@ -1,7 +1,7 @@
 -- A sound state that answers yes has the room that adding asks for.
-use Rattle.std.proofs.Common.{◌≡◌, ℕ, ◌+◌, ◌<◌, ◌≤◌, Bool, true, false, List, length, get_or, Some, None, Option, sym, refl, ap, ◌∙◌, subst, arith, get_or-take}
+use Rattle.std.proofs.Common.{◌≡◌, ℕ, ◌<◌, true, List, length, Some, None, Option, sym, refl, ap, ◌∙◌, arith, get_or-take}
 use Rattle.page.specs.declared.kind.NodeKind.TheVariants.{Text}
-use Rattle.table.specs.Table.{Table, node_at}
+use Rattle.table.specs.Table.{Table}
 use Rattle.table.specs.Links.{depth_at}
 use Rattle.table.proofs.Accepted.{laid}
 use Rattle.linked.specs.declared.node.LinkedNode.{LinkedNode}
@@ -13,7 +13,7 @@ use Rattle.builder.specs.Events.{attribute}
 use Rattle.builder.specs.After.{open_node, of_node, first_no, answer}
 use Rattle.builder.specs.Room.{Below, NodeRoom, AttrRoom}
 use Rattle.builder.specs.Sound.{sound}
-use Rattle.builder.proofs.Sound.{Last, Sound, sound-is, used-nodes, table-nodes, used-attrs, table-accepted, open_in}
+use Rattle.builder.proofs.Sound.{Last, sound-is, used-nodes, table-nodes, used-attrs, table-accepted, open_in}
 use Rattle.builder.proofs.Granting.{node-granted, attr-granted, attr-narrow}
 
 last-below : (t : Table) (n p : ℕ) (o : Option ℕ) → Last t n p o → Below o n

@@ -1,18 +1,17 @@
 -- One row more, and one attribute more of the last row: the records, and that they still fit.
-use Rattle.std.proofs.Common.{◌≡◌, ℕ, zero, suc, ◌+◌, ◌<◌, ◌≤◌, Bool, true, false, cond, not, ◌&&◌, ◌||◌, eqb, leb, List, [], ◌∷◌, ◌++◌, length, take, sym, refl, ap, ◌∙◌, subst, append_assoc, append-nil, arith, length-append}
+use Rattle.std.proofs.Common.{◌≡◌, ℕ, zero, suc, ◌+◌, ◌<◌, ◌≤◌, true, false, not, ◌&&◌, ◌||◌, eqb, leb, List, [], ◌∷◌, ◌++◌, length, sym, refl, ap, ◌∙◌, append_assoc, append-nil, arith, length-append}
 use Rattle.std.proofs.lemmas.Bool.{and_parts, and_from, le-leb, eqb-true, both_ways}
 use Rattle.utf8.specs.Table.{well_formed}
 use Rattle.page.specs.declared.kind.NodeKind.{NodeKind}
 use Rattle.page.specs.declared.kind.NodeKind.TheVariants.{Document, Doctype, Text, Comment, Element}
-use Rattle.page.specs.Kinds.{code, is_element, is_document, if_text}
+use Rattle.page.specs.Kinds.{code, is_document, if_text}
 use Rattle.page.specs.Kept.{AttrsFormed}
 use Rattle.table.specs.declared.record.NodeRecord.{NodeRecord}
-use Rattle.table.specs.declared.record.AttrRecord.{AttrRecord}
 use Rattle.table.specs.Rows.{Row, reach, bare, steps, total, formed, RowsFormed}
 use Rattle.table.specs.Table.{Table, node_at, part, row_at, rows_from, rows_of}
 use Rattle.table.specs.Tabulate.{joined, bytes_of, node_records, attr_records, all_attrs, all_bytes, tabulate}
 use Rattle.table.proofs.Lawful.{form}
-use Rattle.table.proofs.Accepted.{Accepted, laid, table-formed, table-texts, length-rows_of}
+use Rattle.table.proofs.Accepted.{Accepted, laid, table-formed, table-texts}
 use Rattle.table.proofs.Tabulated.{tabulated}
 use Rattle.table.proofs.Reread.{attr_count, root_empty, RowsFit, length-all_attrs}
 

@@ -1,12 +1,10 @@
 -- What an event answers, and what it leaves.
-use Rattle.std.specs.Prelude.{ℕ, suc, ◌+◌, min, max, Bool, true, false, cond, not, ◌&&◌, List, [], ◌∷◌, ◌++◌, length, take, drop, Some, None, Option, ◌==◌, nat_le, nat_lt, slice_index_or, slice_set}
+use Rattle.std.specs.Prelude.{ℕ, ◌+◌, min, max, Bool, true, false, cond, not, ◌&&◌, List, [], ◌∷◌, ◌++◌, length, take, drop, Some, None, Option, ◌==◌, nat_le, nat_lt, slice_index_or, slice_set}
 use Rattle.std.specs.Option.{unwrap_or}
 use Rattle.utf8.specs.Table.{well_formed}
 use Rattle.page.specs.declared.kind.NodeKind.{NodeKind}
-use Rattle.page.specs.declared.kind.NodeKind.TheVariants.{Document, Doctype, Text, Comment, Element}
+use Rattle.page.specs.declared.kind.NodeKind.TheVariants.{Doctype, Text, Comment, Element}
 use Rattle.page.specs.Kinds.{code}
-use Rattle.table.specs.declared.record.NodeRecord.{NodeRecord}
-use Rattle.table.specs.declared.record.AttrRecord.{AttrRecord}
 use Rattle.table.specs.declared.record.Section.TheVariants.{Nodes, Attributes, Bytes}
 use Rattle.table.specs.Checks.{most}
 use Rattle.linked.specs.declared.node.LinkedNode.{LinkedNode}

@@ -1,5 +1,5 @@
 -- What every builder keeps: what is used is accepted by opening, and the builder stands at the last node or above it.
-use Rattle.std.specs.Prelude.{ℕ, suc, ◌+◌, Bool, true, false, not, ◌&&◌, ◌||◌, length, Some, None, Option, ◌==◌, nat_le, nat_lt}
+use Rattle.std.specs.Prelude.{ℕ, ◌+◌, Bool, false, not, ◌&&◌, ◌||◌, length, Some, None, Option, ◌==◌, nat_le, nat_lt}
 use Rattle.table.specs.Table.{Table, node_at}
 use Rattle.table.specs.Checks.{each, is_parent_code, accepts}
 use Rattle.table.specs.Links.{depth_at, deepest}

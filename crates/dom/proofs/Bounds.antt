@@ -1,5 +1,5 @@
 -- How large the figures of a page can be.
-use Rattle.std.proofs.Common.{◌≡◌, ℕ, suc, ◌+◌, ◌*◌, ◌^◌, ◌<◌, ◌≤◌, max, Bool, true, false, cond, ◌||◌, eqb, leb, ◌⊎◌, List, [], ◌∷◌, ◌++◌, length, sym, refl, ap, ◌∙◌, subst, inl, inr, mul-le-mul_right, suc-mul, mul-le-mul_left, one-mul, mul-add, arith}
+use Rattle.std.proofs.Common.{◌≡◌, ℕ, suc, ◌+◌, ◌*◌, ◌≤◌, max, Bool, true, false, cond, eqb, leb, List, [], ◌∷◌, ◌++◌, length, refl, ◌∙◌, subst, mul-le-mul_right, suc-mul, mul-le-mul_left, one-mul, mul-add, arith}
 use Rattle.std.specs.Char.{len_utf8}
 use Rattle.std.proofs.lemmas.List.{length-append}
 use Rattle.std.proofs.lemmas.Str.{len_utf8_bounds}
@@ -12,10 +12,9 @@ use Rattle.page.specs.Kept.{Kept}
 use Rattle.page.proofs.Parent.{size-find}
 use Rattle.page.proofs.Walk.{texts-find}
 use Rattle.page.proofs.Levels.{size_below}
-use Rattle.text.specs.declared.marks.State.{State}
 use Rattle.text.specs.declared.marks.State.TheVariants.{Plain, AfterStop, AfterComma}
-use Rattle.text.specs.Trim.{total, trim, weight, trimmed_length, trimmed_bytes}
-use Rattle.text.specs.Marks.{bit, hits}
+use Rattle.text.specs.Trim.{total, weight, trimmed_length, trimmed_bytes}
+use Rattle.text.specs.Marks.{bit}
 use Rattle.text.proofs.Trims.{widths-held, weight-width, total-le, trim-le}
 use Rattle.text.proofs.Matching.{hits-most}
 use Rattle.names.specs.declared.tag.Tag.{Tag}
@@ -23,7 +22,6 @@ use Rattle.names.specs.declared.tag.Tag.TheVariants.{Anchor, P, Img, Li, Input, 
 use Rattle.names.specs.Tags.{classed}
 use Rattle.names.specs.Is.{is}
 use Rattle.dom.specs.declared.under.Under.{Under}
-use Rattle.dom.specs.Passes.{pick, joined, both}
 use Rattle.dom.specs.Deep.{text_of, deep_chars, text_length, link_length, count_tag, long_texts}
 use Rattle.dom.specs.Under.{under_of, plus, element_of, node_of}
 use Rattle.dom.specs.Small.{Small, Bounded}

@@ -1,5 +1,5 @@
 -- Figures join: one forest after another, and a node over what is under it.
-use Rattle.std.proofs.Common.{◌≡◌, ℕ, ◌+◌, ◌<◌, ◌≤◌, Bool, true, false, cond, ◌||◌, leb, List, [], ◌∷◌, ◌++◌, length, Some, None, Option, sym, refl, ap, ◌∙◌, arith}
+use Rattle.std.proofs.Common.{◌≡◌, ℕ, ◌+◌, Bool, true, false, cond, ◌||◌, leb, List, [], ◌∷◌, ◌++◌, length, Some, sym, refl, ap, ◌∙◌, arith}
 use Rattle.std.proofs.lemmas.List.{length-append}
 use Rattle.utf8.specs.Decode.{scalars_of}
 use Rattle.page.specs.declared.kind.NodeKind.{NodeKind}
@@ -10,7 +10,7 @@ use Rattle.text.specs.Held.{bytes_in}
 use Rattle.text.specs.declared.marks.State.{State}
 use Rattle.text.specs.declared.marks.State.TheVariants.{Plain, AfterStop, AfterComma}
 use Rattle.text.specs.Trim.{trimmed_length, trimmed_bytes}
-use Rattle.text.specs.Marks.{bit, ends, moved, hits, after}
+use Rattle.text.specs.Marks.{bit, moved, hits, after}
 use Rattle.names.specs.declared.tag.Tag.{Tag}
 use Rattle.names.specs.declared.tag.Tag.TheVariants.{Anchor, P, Img, Li, Input, Embed, Other}
 use Rattle.names.specs.Tags.{named, classed, tag_of}

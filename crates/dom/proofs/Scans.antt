@@ -1,5 +1,5 @@
 -- The machine that takes all figures runs each part by itself.
-use Rattle.std.proofs.Common.{◌≡◌, ℕ, ◌+◌, ◌-◌, ◌^◌, ◌<◌, ◌≤◌, min, List, [], ◌∷◌, length, sym, refl, ap, ◌∙◌, arith}
+use Rattle.std.proofs.Common.{◌≡◌, ℕ, ◌+◌, ◌-◌, ◌^◌, ◌<◌, min, List, [], ◌∷◌, length, refl, arith}
 use Rattle.text.specs.Held.{run}
 use Rattle.text.specs.Trimming.{trim_step}
 use Rattle.text.specs.Marks.{mark_step}

@@ -1,6 +1,5 @@
 -- How large the figures can be.
-use Rattle.std.specs.Prelude.{ℕ, ◌^◌, ◌<◌, ◌≤◌}
-use Rattle.dom.specs.declared.pass.Pass.{Pass}
+use Rattle.std.specs.Prelude.{◌^◌, ◌<◌, ◌≤◌}
 use Rattle.dom.specs.declared.under.Under.{Under}
 
 -- figures that numbers of 32 bits hold

@@ -1,5 +1,5 @@
 -- The line of an element, and of any other node.
-use Rattle.std.proofs.Common.{◌≡◌, ℕ, List, [], ◌++◌, ℤ, IfOk, Some, Ok, Err, Result, sym, refl, ap, ◌∙◌, arith}
+use Rattle.std.proofs.Common.{◌≡◌, ℕ, List, [], ◌++◌, IfOk, Some, Ok, Err, Result, sym, refl, ap, ◌∙◌, arith}
 use Rattle.page.specs.declared.kind.NodeKind.{NodeKind}
 use Rattle.page.specs.declared.kind.NodeKind.TheVariants.{Document, Doctype, Text, Comment, Element}
 use Rattle.page.specs.declared.kind.Part.TheVariants.{Content}

@@ -1,5 +1,5 @@
 -- The figures of the elements of a page, a line each, in document order.
-use Rattle.std.specs.Prelude.{ℕ, Bool, true, false, List, [], ◌∷◌, ◌++◌, map, ℤ, codes, decimal}
+use Rattle.std.specs.Prelude.{ℕ, Bool, true, false, List, [], ◌++◌, map, ℤ, codes, decimal}
 use Rattle.std.proofs.Math.Utf8.{encodes}
 use Rattle.std.specs.Fmt.{signed_decimal}
 use Rattle.utf8.specs.Decode.{scalars_of}

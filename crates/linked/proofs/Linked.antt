@@ -1,8 +1,7 @@
 -- What it means that the links of every node match the depths.
-use Rattle.std.proofs.Common.{◌≡◌, ℕ, ◌<◌, Bool, true, false, ◌&&◌, eqb, List, length, get_or, Some, None, Option, sym, refl, ap, ◌∙◌}
+use Rattle.std.proofs.Common.{◌≡◌, ℕ, ◌<◌, true, false, List, length, get_or, Some, None, Option, sym, refl, ap, ◌∙◌}
 use Rattle.std.proofs.lemmas.Bool.{and_parts, and_from, eqb-true, eq-eqb, both_ways}
 use Rattle.table.specs.Table.{Table}
-use Rattle.table.specs.Checks.{each}
 use Rattle.table.proofs.Each.{each_at}
 use Rattle.linked.specs.declared.node.LinkedNode.{LinkedNode}
 use Rattle.linked.specs.Links.{parent_link, child_link, sibling_link, same_link}

@@ -1,5 +1,5 @@
 -- The links that the depths mean are the relatives in the tree.
-use Rattle.std.proofs.Common.{◌≡◌, ℕ, zero, suc, ◌+◌, ◌-◌, ◌<◌, ◌≤◌, Bool, true, false, cond, eqb, ltb, ◌⊎◌, length, Some, None, Option, sym, refl, ap, ◌∙◌, subst, inl, inr, add-one, arith}
+use Rattle.std.proofs.Common.{◌≡◌, ℕ, zero, suc, ◌+◌, ◌-◌, ◌<◌, ◌≤◌, ltb, ◌⊎◌, length, Some, None, Option, sym, refl, ap, ◌∙◌, subst, inl, inr, add-one, arith}
 use Rattle.std.proofs.lemmas.List.{get_or_past}
 use Rattle.std.proofs.lemmas.Bool.{cases_lt, cases_eq, cases_order, lt-ltb, le-ltb, cond-true, cond-false}
 use Rattle.page.specs.Forest.{find, head_of, kids_of, rest_of, parent_in}
@@ -8,7 +8,7 @@ use Rattle.table.specs.Links.{depth_at}
 use Rattle.table.proofs.Accepted.{Accepted, root-depth, later-depth}
 use Rattle.table.proofs.Reading.{parent-first, parent-there, child-there, child-none, child-last, sibling-there, sibling-higher, sibling-none}
 use Rattle.linked.specs.Links.{last_above, first_at, parent_link, child_link, sibling_link}
-use Rattle.linked.proofs.Depths.{Above, above-is, none_above, at-deeper, at_here, at-higher}
+use Rattle.linked.proofs.Depths.{above-is, none_above, at-deeper, at_here, at-higher}
 
 module _ (t : Table) (acc : Accepted t) (i : ℕ) (l : i < length t.nodes) where
   pub parent-link : parent_in None (tree_of t) i ≡ parent_link t i

@@ -1,9 +1,8 @@
 -- Records whose verdict is none are accepted and linked, and the other way round.
-use Rattle.std.proofs.Common.{◌≡◌, ℕ, zero, suc, ◌+◌, ◌<◌, ◌≤◌, Bool, true, false, ◌&&◌, ◌⊎◌, List, [], ◌∷◌, ◌++◌, length, None, sym, refl, ap, ◌∙◌, inl, inr, arith}
+use Rattle.std.proofs.Common.{◌≡◌, ℕ, zero, suc, ◌+◌, ◌<◌, ◌≤◌, Bool, true, ◌&&◌, ◌⊎◌, List, length, None, refl, ap, ◌∙◌, inl, inr, arith}
 use Rattle.std.proofs.lemmas.Bool.{and_parts, and_from, cases_eq}
 use Rattle.table.specs.declared.record.AttrRecord.{AttrRecord}
 use Rattle.table.specs.declared.record.Section.TheVariants.{Nodes, Attributes, Bytes}
-use Rattle.table.specs.declared.record.Check.TheVariants.{SectionsEnd}
 use Rattle.table.specs.Table.{Table}
 use Rattle.table.specs.Checks as table
 use Rattle.table.specs.Checks.{in_range, kind_ok, depth_ok, layout_ok, formed_ok, granted, each, of_node, of_nodes, accepts}

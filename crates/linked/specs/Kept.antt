@@ -1,5 +1,5 @@
 -- A page in linked records keeps the law of a page.
-use Rattle.std.specs.Prelude.{◌≡◌, length}
+use Rattle.std.specs.Prelude.{length}
 use Rattle.std.proofs.Common.{subst}
 use Rattle.std.proofs.lemmas.List.{length-map}
 use Rattle.page.specs.Kept.{Kept}

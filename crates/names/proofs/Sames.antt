@@ -1,11 +1,10 @@
 -- Texts that are the same, place by place.
-use Rattle.std.proofs.Common.{◌≡◌, ℕ, suc, ◌+◌, ◌<◌, ◌≤◌, Bool, true, false, cond, ◌&&◌, eqb, List, [], ◌∷◌, map, length, get_or, drop, Some, None, Option, sym, refl, ap, ◌∙◌, inl, inr, arith}
+use Rattle.std.proofs.Common.{◌≡◌, ℕ, suc, ◌+◌, ◌<◌, ◌≤◌, Bool, true, false, cond, ◌&&◌, eqb, List, [], ◌∷◌, map, length, get_or, drop, Some, None, sym, refl, ap, ◌∙◌, arith}
 use Rattle.std.proofs.lemmas.List.{drop_more, drop_all, drop-drop, get_or-map, length-map, at_drop_more, at_drop_all}
 use Rattle.std.proofs.lemmas.Bool.{eq-eqb, ne_eqb, eqb-true, and_parts, and_from, and_left, both_ways, cond-true, cond-false}
 use Rattle.utf8.specs.Decode.{decoded, scalars_of}
 use Rattle.utf8.proofs.Scalars.{scalars_of-some, scalars_of-none}
-use Rattle.page.specs.declared.kind.NodeKind.{NodeKind}
-use Rattle.page.specs.declared.kind.NodeKind.TheVariants.{Document, Doctype, Text, Comment, Element}
+use Rattle.page.specs.declared.kind.NodeKind.TheVariants.{Element}
 use Rattle.page.specs.declared.kind.Part.TheVariants.{Content}
 use Rattle.page.specs.Forest.{Forest, none, node, kind_of, part_of}
 use Rattle.text.specs.Held.{bytes_in}

@@ -4,7 +4,7 @@ use Rattle.std.proofs.lemmas.Bool.{eqb-true, ne_eqb, both_ways, or_parts, or_lef
 use Rattle.page.specs.declared.kind.NodeKind.{NodeKind}
 use Rattle.page.specs.Forest.{Forest, none, node, or_else, or_else_o, find, has, head_of, kids_of, rest_of, size, among, parent_in}
 use Rattle.page.specs.Kept.{Unique, Below}
-use Rattle.page.proofs.Find.{find-under, find-beside, at, find_first, apart, off-kids, unique-find, find-find, head-find, has-find}
+use Rattle.page.proofs.Find.{find-under, find-beside, find_first, apart, off-kids, unique-find, find-find, head-find, has-find}
 use Rattle.page.proofs.Walk.{size-parts}
 
 pub among-has : (f : Forest) (n : ℕ) → among f n ≡ true → has f n ≡ true

@@ -12,7 +12,7 @@ use Rattle.table.specs.Tabulate.{joined, bytes_of, node_records, attr_records, a
 use Rattle.table.specs.Fits.{Narrow, Fits}
 use Rattle.table.proofs.Asked.{all-granted, none-refused, granted-join}
 use Rattle.table.proofs.Accepted.{accepted}
-use Rattle.table.proofs.Reread.{attr_count, length-nodes}
+use Rattle.table.proofs.Reread.{attr_count}
 use Rattle.table.proofs.Fitting.{RowsNarrow, narrow-flatten, rows_fit, tree-accepted, accepted-tree}
 use Rattle.pagefile.specs.File.{count, count_at, attr_in, table_of}
 use Rattle.pagefile.specs.Opening.{answer, of_sections, checks, verdict}

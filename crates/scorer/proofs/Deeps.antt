@@ -1,5 +1,5 @@
 -- The characters of the deep text of a page.
-use Rattle.std.proofs.Common.{◌≡◌, ℕ, ◌+◌, ◌-◌, ◌/◌, ◌^◌, ◌<◌, ◌≤◌, min, Bool, true, false, cond, eqb, List, [], ◌∷◌, ◌++◌, length, sym, refl, ap, ◌∙◌, subst, arith}
+use Rattle.std.proofs.Common.{◌≡◌, ℕ, Bool, true, false, cond, eqb, List, ◌++◌, length, sym, refl, ap, ◌∙◌, arith}
 use Rattle.std.proofs.lemmas.Str.{IsUtf8-append}
 use Rattle.utf8.specs.Table.{well_formed}
 use Rattle.utf8.specs.Decode.{scalars_of}
@@ -10,8 +10,7 @@ use Rattle.page.specs.declared.kind.NodeKind.TheVariants.{Document, Doctype, Tex
 use Rattle.page.specs.Forest.{Forest, none, node, or_else, find, kids_of}
 use Rattle.page.specs.Kept.{WellFormed}
 use Rattle.text.specs.declared.marks.State.TheVariants.{Plain}
-use Rattle.text.specs.Trimming.{plus}
-use Rattle.text.specs.Marks.{hits, Matches}
+use Rattle.text.specs.Marks.{hits}
 use Rattle.text.proofs.Matching.{hits-most, matched, only}
 use Rattle.dom.specs.declared.under.Under.{Under}
 use Rattle.dom.specs.Deep.{text_of, deep, deep_chars}

@@ -1,5 +1,5 @@
 -- Qualifying, and the content score.
-use Rattle.std.specs.Prelude.{◌≡◌, ℕ, ◌+◌, ◌/◌, ◌≤◌, min, Bool, cond, not, ◌&&◌, ◌||◌, List, [], ◌∷◌, length, nat_le}
+use Rattle.std.specs.Prelude.{◌≡◌, ℕ, ◌+◌, ◌/◌, ◌≤◌, min, Bool, not, ◌&&◌, ◌||◌, List, [], ◌∷◌, length, nat_le}
 use Rattle.utf8.specs.Decode.{scalars_of}
 use Rattle.page.specs.Forest.{Forest, kids_of}
 use Rattle.text.specs.declared.marks.State.TheVariants.{Plain}

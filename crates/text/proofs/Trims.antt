@@ -1,5 +1,5 @@
 -- The machine measures the trimmed text.
-use Rattle.std.proofs.Common.{◌≡◌, ℕ, zero, suc, pred, ◌+◌, ◌-◌, ◌^◌, ◌<◌, ◌≤◌, min, Bool, true, false, cond, not, ◌⊎◌, List, [], ◌∷◌, ◌++◌, length, Some, None, Option, sym, refl, ap, ◌∙◌, subst, inl, inr, arith}
+use Rattle.std.proofs.Common.{◌≡◌, ℕ, zero, suc, pred, ◌+◌, ◌-◌, ◌^◌, ◌<◌, ◌≤◌, Bool, true, false, cond, not, ◌⊎◌, List, [], ◌∷◌, length, Some, None, Option, sym, refl, ap, ◌∙◌, inl, inr, arith}
 use Rattle.std.specs.Char.{len_utf8}
 use Rattle.std.proofs.lemmas.Bool.{cases_Bool, cond-true, cond-false}
 use Rattle.std.proofs.lemmas.Str.{length-encode, len_utf8_bounds}
@@ -10,7 +10,7 @@ use Rattle.text.specs.declared.trim.Trimmed.{Trimmed}
 use Rattle.text.specs.declared.trim.Trim.{Trim}
 use Rattle.text.specs.Space.{space}
 use Rattle.text.specs.Held.{run}
-use Rattle.text.specs.Trim.{trim_front, before, trim_end, trim, is_nil, blank, total, weight, trimmed_length, trimmed_bytes}
+use Rattle.text.specs.Trim.{trim_front, before, trim_end, trim, is_nil, blank, total, weight}
 use Rattle.text.specs.Trimming.{plus, added, trim_step, Trims}
 
 -- the characters of bytes take no more than the bytes

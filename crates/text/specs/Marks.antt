@@ -1,5 +1,5 @@
 -- Punctuation: what a match is, the matches of a text, and the machine that counts them.
-use Rattle.std.specs.Prelude.{◌≡◌, ℕ, suc, ◌+◌, ◌-◌, ◌^◌, ◌<◌, min, Bool, true, false, cond, not, ◌&&◌, ◌||◌, List, [], ◌∷◌, length, Decides, ◌==◌, nat_le}
+use Rattle.std.specs.Prelude.{◌≡◌, ℕ, suc, ◌+◌, ◌-◌, ◌^◌, ◌<◌, min, Bool, true, false, cond, not, ◌&&◌, ◌||◌, List, [], ◌∷◌, length, ◌==◌, nat_le}
 use Rattle.text.specs.declared.marks.State.{State}
 use Rattle.text.specs.declared.marks.State.TheVariants.{Plain, AfterStop, AfterComma}
 use Rattle.text.specs.declared.marks.Marks.{Marks}

@@ -1,5 +1,5 @@
 -- Induction over the turns of the standard's loop.
-use Rattle.std.proofs.Common.{◌≡◌, ℕ, zero, suc, ◌+◌, ◌-◌, ◌<◌, ◌≤◌, Bool, true, false, cond, ◌||◌, ◌⊎◌, List, [], ◌∷◌, ◌++◌, length, Some, None, codes, Option, sym, refl, ap, ◌∙◌, subst, inl, inr, arith}
+use Rattle.std.proofs.Common.{◌≡◌, ℕ, zero, suc, ◌≤◌, false, List, [], ◌∷◌, ◌++◌, length, Some, None, codes, Option, refl, arith}
 use Rattle.std.specs.Str.{bytes_eq}
 use Rattle.uri.specs.Bytes.{after}
 use Rattle.uri.specs.Dots.{turn, turns, remove_dots, on_prefix, without_last, first_segment, behind_segment}

@@ -1,16 +1,16 @@
 -- Components as they are split off are well-formed, and so are a target's.
-use Rattle.std.proofs.Common.{◌≡◌, ℕ, suc, ◌<◌, ◌≤◌, Bool, true, false, cond, ◌||◌, eqb, ◌⊎◌, List, [], ◌∷◌, ◌++◌, length, take, is_some, IfSome, Some, None, codes, Option, sym, refl, ap, ◌∙◌, subst, inl, inr, append_assoc, arith}
+use Rattle.std.proofs.Common.{◌≡◌, ℕ, suc, Bool, true, false, cond, ◌||◌, eqb, List, [], ◌∷◌, ◌++◌, is_some, IfSome, Some, None, codes, Option, sym, refl, ap, ◌∙◌, subst, arith}
 use Rattle.std.proofs.ByRecursion.{All-append, All-take}
 use Rattle.std.proofs.lemmas.List.{append_cancel_left}
 use Rattle.uri.specs.Bytes.{among, front, rest, after}
-use Rattle.uri.specs.Components.{Parts, named, scheme_cut, opened, authority_cut, query_cut, components}
-use Rattle.uri.specs.Dots.{rightmost, farther, remove_dots}
+use Rattle.uri.specs.Components.{Parts, named, scheme_cut, opened, authority_cut, components}
+use Rattle.uri.specs.Dots.{rightmost, farther}
 use Rattle.uri.specs.Laws.{Begins, Formed, Matched}
-use Rattle.uri.specs.Resolve.{through, merge_front, or_else, is_empty, transform, closed, led, recompose}
+use Rattle.uri.specs.Resolve.{through, merge_front, or_else, is_empty, transform, closed}
 use Rattle.uri.specs.Segments.{Without}
 use Rattle.uri.specs.View.{path_front}
 use Rattle.uri.proofs.Fronts.{after_front}
-use Rattle.uri.proofs.Keeps.{removed-all, removed-slashed, begins-append}
+use Rattle.uri.proofs.Keeps.{removed-all, removed-slashed}
 use Rattle.uri.proofs.NoDots.{front-without}
 use Rattle.uri.proofs.ReadBack.{front-append}
 use Rattle.uri.proofs.Splits.{rest-begins, scheme-whole, recompose-components}

@@ -1,9 +1,9 @@
 -- What removing dot segments keeps: the kind of the bytes, and a slash at the front.
-use Rattle.std.proofs.Common.{◌≡◌, ℕ, zero, suc, ◌+◌, ◌-◌, ◌<◌, ◌≤◌, Bool, true, false, cond, List, [], ◌∷◌, ◌++◌, length, take, Some, None, codes, Option, sym, refl, ap, ◌∙◌, subst, arith}
+use Rattle.std.proofs.Common.{◌≡◌, ℕ, zero, suc, Bool, true, false, cond, List, [], ◌∷◌, ◌++◌, take, Some, None, codes, Option, refl, subst, arith}
 use Rattle.std.proofs.ByRecursion.{All-append, All-take}
 use Rattle.std.specs.List.{AllByRecursion as All}
 use Rattle.uri.specs.Bytes.{among, front, rest}
-use Rattle.uri.specs.Dots.{remove_dots, rightmost, before, without_last, first_segment, behind_segment}
+use Rattle.uri.specs.Dots.{remove_dots, rightmost, before}
 use Rattle.uri.proofs.Cases.{Each, dots-keep}
 use Rattle.uri.specs.Laws.{Begins}
 use Rattle.uri.proofs.Splits.{rest-begins}

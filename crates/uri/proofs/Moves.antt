@@ -1,8 +1,8 @@
 -- A copy down a list, and the first segment of an input.
-use Rattle.std.proofs.Common.{◌≡◌, ℕ, zero, suc, ◌+◌, ◌-◌, ◌<◌, ◌≤◌, List, [], ◌∷◌, ◌++◌, length, get_or, take, drop, set, codes, sym, refl, ap, ◌∙◌, subst, append_assoc, add-zero, add_assoc, add-one, one-add, arith}
+use Rattle.std.proofs.Common.{◌≡◌, ℕ, ◌+◌, ◌<◌, ◌≤◌, List, [], ◌∷◌, ◌++◌, length, get_or, take, drop, set, codes, sym, ap, ◌∙◌, subst, append_assoc, add-zero, one-add, arith}
 use Rattle.std.specs.List.{between}
 use Rattle.std.proofs.lemmas.List.{take_more, take_more_set, get_or-drop, drop-set-lt, drop-drop, length-drop, take_all}
-use Rattle.uri.specs.Bytes.{front, rest}
+use Rattle.uri.specs.Bytes.{front}
 use Rattle.uri.specs.Dots.{first_segment, behind_segment}
 use Rattle.uri.proofs.Fronts.{take-front, drop-front, length-parts}
 

@@ -1,12 +1,12 @@
 -- What is left after removing dot segments has none.
-use Rattle.std.proofs.Common.{◌≡◌, ℕ, zero, suc, ◌+◌, ◌-◌, ◌<◌, ◌≤◌, Bool, true, false, cond, ◌||◌, eqb, ◌⊎◌, List, [], ◌∷◌, ◌++◌, length, take, drop, Some, None, codes, Option, sym, refl, ap, ◌∙◌, subst, inl, inr, append_assoc, arith}
+use Rattle.std.proofs.Common.{◌≡◌, ℕ, zero, suc, Bool, true, false, cond, ◌||◌, eqb, ◌⊎◌, List, [], ◌∷◌, ◌++◌, take, drop, Some, None, codes, Option, sym, refl, ap, ◌∙◌, subst, inl, inr, append_assoc, arith}
 use Rattle.std.proofs.lemmas.Slice.Eq.{bytes_eq-Decides}
 use Rattle.std.proofs.ByRecursion.{All-append}
-use Rattle.std.proofs.lemmas.Bool.{both_ways, eqb-true, eq-eqb}
+use Rattle.std.proofs.lemmas.Bool.{both_ways, eqb-true}
 use Rattle.std.specs.List.{AllByRecursion as All}
 use Rattle.std.specs.Str.{bytes_eq}
 use Rattle.uri.specs.Bytes.{among, front, rest, after}
-use Rattle.uri.specs.Dots.{remove_dots, farther, rightmost, before, without_last, first_segment, behind_segment}
+use Rattle.uri.specs.Dots.{remove_dots, farther, rightmost, before, without_last}
 use Rattle.uri.specs.Segments.{longer, segments, NotDots, NoDots, Without}
 use Rattle.uri.proofs.Fronts.{after_front, front_rest}
 use Rattle.uri.proofs.Cases.{Plain, Each, dots-keep}

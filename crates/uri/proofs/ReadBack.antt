@@ -1,6 +1,6 @@
 -- An address that is recomposed of well-formed components has those components.
-use Rattle.std.proofs.Common.{◌≡◌, ℕ, ◌<◌, ◌≤◌, Bool, true, false, cond, ◌||◌, eqb, ◌⊎◌, List, [], ◌∷◌, ◌++◌, is_some, IfSome, Some, None, codes, Option, sym, refl, ap, ◌∙◌, subst, inl, inr, append_assoc, arith}
-use Rattle.std.proofs.lemmas.Bool.{or_right, or_left, or_cases, eqb-true, cond-true, cond-false, both_ways}
+use Rattle.std.proofs.Common.{◌≡◌, ℕ, Bool, true, false, cond, ◌||◌, eqb, ◌⊎◌, List, [], ◌∷◌, ◌++◌, is_some, IfSome, Some, None, codes, Option, refl, ap, ◌∙◌, subst, inl, inr, append_assoc, arith}
+use Rattle.std.proofs.lemmas.Bool.{or_right, eqb-true, cond-true, cond-false}
 use Rattle.uri.specs.Bytes.{among, front, rest, after}
 use Rattle.uri.specs.Components.{Parts, named, scheme_cut, opened, authority_cut, query_cut, from_path, components}
 use Rattle.uri.specs.Laws.{Begins, Formed}

@@ -1,10 +1,10 @@
 -- A turn of the standard's loop does what its rule does.
-use Rattle.std.proofs.Common.{◌≡◌, ℕ, zero, suc, ◌+◌, ◌<◌, ◌≤◌, Bool, true, false, cond, ◌||◌, eqb, List, [], ◌∷◌, ◌++◌, length, drop, is_some, Some, None, codes, Option, sym, refl, ap, ◌∙◌, subst, arith}
+use Rattle.std.proofs.Common.{◌≡◌, ℕ, ◌≤◌, Bool, true, false, cond, ◌||◌, eqb, List, [], ◌∷◌, ◌++◌, length, drop, is_some, Some, None, codes, Option, sym, refl, ap, ◌∙◌, subst, arith}
 use Rattle.std.proofs.lemmas.Slice.Eq.{bytes_eq-Decides}
 use Rattle.std.proofs.lemmas.Bool.{eqb-true}
 use Rattle.std.specs.Str.{bytes_eq}
 use Rattle.uri.specs.Bytes.{after}
-use Rattle.uri.specs.Dots.{turn, on_prefix, without_last, first_segment, behind_segment}
+use Rattle.uri.specs.Dots.{turn, on_prefix, without_last}
 use Rattle.uri.specs.Turn.{rule_of, effect, least}
 use Rattle.uri.specs.declared.dots.Rule.{Rule}
 use Rattle.uri.specs.declared.dots.Rule.TheVariants.{DotDotPrefix, DotPrefix, Dot, LastDot, Parent, LastParent, OnlyDots, Segment}

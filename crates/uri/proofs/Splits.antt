@@ -1,8 +1,8 @@
 -- The components of an address give the address again.
-use Rattle.std.proofs.Common.{◌≡◌, ℕ, ◌<◌, ◌≤◌, Bool, true, false, cond, ◌||◌, eqb, ◌⊎◌, List, [], ◌∷◌, ◌++◌, Some, None, codes, Option, sym, refl, ap, ◌∙◌, subst, inl, inr, append_assoc, append-nil, arith}
-use Rattle.std.proofs.lemmas.Bool.{or_cases, eqb-true}
+use Rattle.std.proofs.Common.{◌≡◌, ℕ, Bool, true, false, cond, ◌||◌, eqb, List, [], ◌∷◌, ◌++◌, Some, None, codes, Option, sym, refl, ap, ◌∙◌, append_assoc, arith}
+use Rattle.std.proofs.lemmas.Bool.{eqb-true}
 use Rattle.uri.specs.Bytes.{among, front, rest, after}
-use Rattle.uri.specs.Components.{Parts, named, scheme_cut, opened, authority_cut, query_cut, from_path, components}
+use Rattle.uri.specs.Components.{named, scheme_cut, opened, authority_cut, query_cut, components}
 use Rattle.uri.specs.Resolve.{closed, led, recompose}
 use Rattle.uri.specs.Laws.{Begins}
 use Rattle.uri.proofs.Fronts.{front_rest}

@@ -1,13 +1,13 @@
 -- The laws of joining, from the definitions.
-use Rattle.std.proofs.Common.{◌≡◌, ℕ, zero, suc, ◌+◌, ◌-◌, ◌<◌, ◌≤◌, Bool, true, false, cond, ◌||◌, eqb, leb, ◌⊎◌, List, [], ◌∷◌, ◌++◌, length, take, drop, is_some, IfSome, Some, None, codes, Option, sym, refl, ap, ◌∙◌, subst, inl, inr, append_assoc, arith}
+use Rattle.std.proofs.Common.{◌≡◌, ℕ, ◌+◌, ◌≤◌, Bool, true, false, cond, eqb, leb, ◌⊎◌, List, [], ◌∷◌, ◌++◌, length, take, drop, is_some, IfSome, Some, None, codes, Option, sym, refl, ap, ◌∙◌, subst, inl, inr, append_assoc, arith}
 use Rattle.std.proofs.ByRecursion.{All-append, All-weaker}
 use Rattle.std.proofs.lemmas.List.{length-append, length-take, take_at}
 use Rattle.std.proofs.lemmas.Bool.{cond-true, or_parts}
-use Rattle.uri.specs.Bytes.{among, front, rest, after}
+use Rattle.uri.specs.Bytes.{among, front, after}
 use Rattle.uri.specs.Components.{Parts, components}
 use Rattle.uri.specs.Dots.{remove_dots, rightmost, before}
 use Rattle.uri.specs.Laws.{Formed, Laws}
-use Rattle.uri.specs.Resolve.{merge_front, or_else, is_empty, transform, closed, led, recompose, target, resolved}
+use Rattle.uri.specs.Resolve.{or_else, is_empty, transform, closed, led, recompose, resolved}
 use Rattle.uri.specs.Segments.{NoDots, Without}
 use Rattle.uri.specs.View.{path_front}
 use Rattle.uri.specs.Write.{placed, write_answer, in_room, resolve_answer, resolve_out, Lawful}

@@ -1,7 +1,7 @@
 -- Turns of the standard's loop, in place.
 use Rattle.std.proofs.Common.{◌≡◌, ℕ, zero, suc, ◌+◌, ◌-◌, ◌<◌, ◌≤◌, List, [], ◌∷◌, ◌++◌, length, take, drop, set, codes, sym, refl, ap, ◌∙◌, subst, arith}
 use Rattle.std.proofs.lemmas.List.{drop-drop, drop-set, drop_all, take-set-le, take_rest, length-drop}
-use Rattle.uri.specs.Dots.{turn, turns, remove_dots, without_last, first_segment, behind_segment}
+use Rattle.uri.specs.Dots.{turn, turns, remove_dots}
 use Rattle.uri.specs.Turn.{rule_of, effect, least, Turned}
 use Rattle.uri.specs.declared.dots.Rule.{Rule}
 use Rattle.uri.specs.declared.dots.Rule.TheVariants.{DotDotPrefix, DotPrefix, Dot, LastDot, Parent, LastParent, OnlyDots, Segment}

@@ -1,5 +1,5 @@
 -- Fronts of byte strings.
-use Rattle.std.specs.Prelude.{ℕ, Bool, true, false, cond, ◌||◌, List, [], ◌∷◌, Some, None, Option, ◌==◌}
+use Rattle.std.specs.Prelude.{ℕ, Bool, false, cond, ◌||◌, List, [], ◌∷◌, Some, None, Option, ◌==◌}
 
 -- whether b is one of the bytes ds
 abbrev pub among : List ℕ → ℕ → Bool

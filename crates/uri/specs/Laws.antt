@@ -1,5 +1,5 @@
 -- The laws of splitting and of joining.
-use Rattle.std.specs.Prelude.{◌≡◌, ℕ, ◌+◌, ◌≤◌, Bool, true, false, ◌⊎◌, List, [], ◌∷◌, ◌++◌, length, is_some, IfSome, Some, None, codes, Option, ◌≢◌}
+use Rattle.std.specs.Prelude.{◌≡◌, ℕ, ◌+◌, ◌≤◌, true, false, ◌⊎◌, List, [], ◌∷◌, ◌++◌, length, is_some, IfSome, None, codes, ◌≢◌}
 use Rattle.uri.specs.Bytes.{among, after}
 use Rattle.uri.specs.Components.{Parts, components}
 use Rattle.uri.specs.Resolve.{or_else, is_empty, closed, led, recompose, target, resolved}

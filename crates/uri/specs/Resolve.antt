@@ -1,5 +1,5 @@
 -- Reference resolution: RFC 3986, sections 5.2.2, 5.2.3 and 5.3.
-use Rattle.std.specs.Prelude.{ℕ, suc, Bool, true, false, cond, ◌&&◌, leb, List, [], ◌∷◌, ◌++◌, length, take, is_some, Some, None, codes, Option}
+use Rattle.std.specs.Prelude.{ℕ, suc, Bool, true, false, cond, List, [], ◌∷◌, ◌++◌, take, is_some, Some, None, codes, Option}
 use Rattle.uri.specs.Bytes.{after}
 use Rattle.uri.specs.Components.{Parts, components}
 use Rattle.uri.specs.Dots.{rightmost, remove_dots}

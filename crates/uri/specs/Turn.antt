@@ -1,5 +1,5 @@
 -- What each rule of section 5.2.4 does, by the bytes that it drops.
-use Rattle.std.specs.Prelude.{◌≡◌, ℕ, ◌<◌, ◌≤◌, cond, ◌||◌, List, [], ◌∷◌, ◌++◌, length, take, drop, is_some, codes}
+use Rattle.std.specs.Prelude.{◌≡◌, ℕ, ◌<◌, ◌≤◌, cond, ◌||◌, List, [], ◌++◌, length, take, drop, is_some, codes}
 use Rattle.std.specs.Str.{bytes_eq}
 use Rattle.uri.specs.Bytes.{after}
 use Rattle.uri.specs.Dots.{turn, without_last, first_segment, behind_segment}

@@ -1,5 +1,5 @@
 -- Each part of the machine has its figure.
-use Rattle.std.proofs.Common.{◌≡◌, ℕ, ◌+◌, ◌^◌, ◌<◌, leb, List, length, sym, refl, ap, ◌∙◌, arith}
+use Rattle.std.proofs.Common.{◌≡◌, ℕ, ◌^◌, ◌<◌, leb, List, length, refl, ap, ◌∙◌, arith}
 use Rattle.std.specs.Char.{len_utf8}
 use Rattle.utf8.specs.Decode.{scalars_of}
 use Rattle.page.specs.declared.kind.Part.TheVariants.{Content}

@@ -1,5 +1,5 @@
 -- A turn takes one child, with all under it.
-use Rattle.std.proofs.Common.{◌≡◌, ◌<◌, set, sym, refl, ap, ◌∙◌, subst, arith}
+use Rattle.std.proofs.Common.{◌≡◌, ◌<◌, set, sym, ap, ◌∙◌, subst, arith}
 use Rattle.page.specs.Forest.{find, head_of, size, kids_of, rest_of, from}
 use Rattle.page.proofs.Walk.{from-kids, from-rest, from_some, from-has, size-parts}
 use Rattle.names.specs.Tags.{tag_of}

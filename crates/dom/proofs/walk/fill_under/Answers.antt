@@ -1,6 +1,6 @@
 -- The walk from the root fills the table for the whole tree.
 use Rattle.std.proofs.Common.{◌≡◌, set, sym, ap, ◌∙◌, subst}
-use Rattle.page.specs.Forest.{find, kids_of, rest_of}
+use Rattle.page.specs.Forest.{kids_of}
 use Rattle.page.proofs.Find.{find_first}
 use Rattle.dom.specs.Under.{under_of}
 use Rattle.dom.specs.Fill.{fill_all, Measured}

@@ -4,7 +4,6 @@ use Rattle.page.specs.declared.kind.NodeKind.TheVariants.{Text}
 use Rattle.page.specs.Forest.{find, kind_of}
 use Rattle.page.proofs.Find.{head-find}
 use Rattle.page.proofs.Parts.{has-content}
-use Rattle.names.specs.Tags.{tag_of}
 use Rattle.dom.specs.Under.{plus, element_of}
 use Rattle.dom.specs.Small.{Small}
 use Rattle.dom.proofs.Joins.{text-node, text-tag, other-node}

@@ -1,4 +1,4 @@
-use Rattle.std.proofs.Common.{◌≡◌, refl}
+use Rattle.std.proofs.Common.{refl}
 use Rattle.text.specs.Space.{space}
 use Rattle.text.specs.Trim.{weight}
 use Rattle.names.specs.Tags.{named}

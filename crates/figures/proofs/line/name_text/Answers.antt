@@ -1,5 +1,5 @@
 -- A turn lowers one character.
-use Rattle.std.proofs.Common.{◌≡◌, ℕ, ◌+◌, ◌<◌, ◌≤◌, List, [], ◌∷◌, ◌++◌, map, length, drop, Some, None, string_bytes, sym, refl, ap, ◌∙◌, append_assoc, append-nil, arith}
+use Rattle.std.proofs.Common.{◌≡◌, ℕ, ◌+◌, ◌≤◌, List, ◌∷◌, ◌++◌, map, length, drop, Some, string_bytes, sym, ap, ◌∙◌, append_assoc, append-nil, arith}
 use lib.Utf8.{encode, encodes}
 use Rattle.std.proofs.lemmas.List.{drop-drop, length-drop}
 use Rattle.utf8.specs.Decode.{decoded, width_of, scalars_of}

@@ -1,5 +1,5 @@
 -- The number and the name, and then the figures.
-use Rattle.std.proofs.Common.{◌≡◌, [], ◌++◌, Some, vec_items, sym, ap, ◌∙◌, subst, append_assoc, append-nil, arith, w32, to_z, of_z}
+use Rattle.std.proofs.Common.{◌≡◌, ◌++◌, Some, vec_items, sym, ap, ◌∙◌, subst, append_assoc, arith, w32, to_z, of_z}
 use Rattle.std.proofs.lemmas.Int.{ints}
 use Rattle.page.specs.declared.kind.NodeKind.TheVariants.{Element}
 use Rattle.page.specs.declared.kind.Part.TheVariants.{Content}
@@ -12,8 +12,8 @@ use Rattle.dom.proofs.Bounds.{room-kept, room-find, room-kids, bounded}
 use Rattle.scorer.specs.Content.{qualifies_by, qualifies_in, score_by, score_of, content_score}
 use Rattle.scorer.specs.Weight.{class_weight}
 use Rattle.scorer.proofs.Deeps.{deep-chars, score-of}
-use Rattle.figures.specs.Points.{numbered, figures_text, element_line}
-use Rattle.figures.proofs.Elements.{element-line, other-line}
+use Rattle.figures.specs.Points.{numbered, figures_text}
+use Rattle.figures.proofs.Elements.{element-line}
 use Rattle.figures.proofs.line.push_line.Goals as goal
 
 pub returns : goal.returns

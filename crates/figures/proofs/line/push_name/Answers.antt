@@ -1,5 +1,5 @@
 -- The number, and then the name.
-use Rattle.std.proofs.Common.{◌≡◌, ◌++◌, vec_items, codes, decimal, ap, ◌∙◌, append_assoc}
+use Rattle.std.proofs.Common.{◌++◌, vec_items, codes, decimal, ap, ◌∙◌, append_assoc}
 use Rattle.page.specs.declared.kind.Part.TheVariants.{Content}
 use Rattle.render.specs.Render.{quoted}
 use Rattle.text.specs.Held.{held}

@@ -1,5 +1,5 @@
 -- A turn writes the lines of one child, with all under it.
-use Rattle.std.proofs.Common.{◌≡◌, ℕ, ◌<◌, ◌≤◌, ◌++◌, vec_items, sym, refl, ap, ◌∙◌, append_assoc, append-nil, arith}
+use Rattle.std.proofs.Common.{◌<◌, ◌++◌, vec_items, sym, ap, ◌∙◌, append_assoc, append-nil, arith}
 use Rattle.page.specs.Forest.{find, head_of, size, kids_of, rest_of, from}
 use Rattle.page.proofs.Walk.{from-kids, from-rest, from_some, from-has, size-parts}
 use Rattle.page.proofs.Parent.{below-has}

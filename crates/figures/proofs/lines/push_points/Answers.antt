@@ -1,6 +1,6 @@
 -- A tree is its root and what stands under it.
-use Rattle.std.proofs.Common.{◌≡◌, ℕ, ◌++◌, Some, vec_items, sym, ap, ◌∙◌, append_assoc, append-nil}
-use Rattle.page.specs.Forest.{Forest, none, find, head_of, kids_of, rest_of}
+use Rattle.std.proofs.Common.{◌≡◌, ◌++◌, vec_items, sym, ap, ◌∙◌, append_assoc, append-nil}
+use Rattle.page.specs.Forest.{Forest, none, find, kids_of, rest_of}
 use Rattle.page.proofs.Find.{find_first}
 use Rattle.figures.specs.Points.{element_line, point_lines}
 use Rattle.figures.proofs.Elements.{line-parts}

@@ -1,4 +1,4 @@
-use Rattle.std.proofs.Common.{◌≡◌, Some, sym, refl, ap, ◌∙◌, arith}
+use Rattle.std.proofs.Common.{Some, sym, ap, ◌∙◌}
 use Rattle.table.proofs.Accepted.{accepted}
 use Rattle.page.specs.Forest.{count_of}
 use Rattle.table.specs.Table.{node_at}

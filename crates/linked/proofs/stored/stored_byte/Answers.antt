@@ -1,5 +1,5 @@
-use Rattle.std.proofs.Common.{◌≡◌, ◌+◌, ◌<◌, true, get_or, is_some, Some, sym, refl, ap, ◌∙◌, subst, arith}
-use Rattle.page.specs.declared.kind.Part.TheVariants.{Content, Name, Value}
+use Rattle.std.proofs.Common.{◌≡◌, ◌+◌, ◌<◌, true, get_or, is_some, Some, sym, ap, ◌∙◌, subst, arith}
+use Rattle.page.specs.declared.kind.Part.TheVariants.{Content}
 use Rattle.page.specs.Forest.{find, part_of, byte_in}
 use Rattle.table.specs.Table.{node_at, attr_at, part, tree_of}
 use Rattle.table.proofs.Accepted.{accepted}

@@ -1,5 +1,5 @@
 -- A turn passes one attribute.
-use Rattle.std.proofs.Common.{◌≡◌, ◌<◌, true, false, [], length, get_or, Some, None, sym, ap, ◌∙◌, subst, arith}
+use Rattle.std.proofs.Common.{◌≡◌, ◌<◌, true, length, Some, None, sym, ap, ◌∙◌, subst, arith}
 use Rattle.page.specs.Forest.{find, has, attrs_of}
 use Rattle.names.specs.Names.{same}
 use Rattle.names.specs.Attrs.{first_index, First}

@@ -1,5 +1,5 @@
 -- A turn compares one byte.
-use Rattle.std.proofs.Common.{◌≡◌, length, sym, refl, ◌∙◌, arith}
+use Rattle.std.proofs.Common.{sym, refl, ◌∙◌, arith}
 use Rattle.page.specs.Forest.{find, part_of}
 use Rattle.text.specs.Held.{held}
 use Rattle.text.proofs.Reading.{byte-is, length-is}

@@ -1,5 +1,5 @@
 -- A turn tries one entry.
-use Rattle.std.proofs.Common.{◌≡◌, sym, refl, ◌∙◌}
+use Rattle.std.proofs.Common.{sym, refl, ◌∙◌}
 use Rattle.page.specs.declared.kind.Part.TheVariants.{Content}
 use Rattle.text.specs.Held.{held}
 use Rattle.names.proofs.Sames.{letters, sought-on, sought-here, sought-end}

@@ -1,7 +1,6 @@
 -- A turn compares one character.
-use Rattle.std.proofs.Common.{◌≡◌, ◌+◌, drop, sym, refl, ap, ◌∙◌, arith}
+use Rattle.std.proofs.Common.{sym, refl, ◌∙◌}
 use Rattle.page.specs.declared.kind.Part.TheVariants.{Content}
-use Rattle.page.specs.Forest.{find, part_of}
 use Rattle.text.specs.Held.{held}
 use Rattle.names.proofs.Sames.{spells-on, spells-off, spells-short, spells-long, spells-end}
 use Rattle.names.proofs.tag.spells.Goals as goal

@@ -1,5 +1,5 @@
 -- A turn tries one place.
-use Rattle.std.proofs.Common.{◌≡◌, true, map, length, drop, is_some, sym, refl, ◌∙◌, arith}
+use Rattle.std.proofs.Common.{◌≡◌, true, map, is_some, sym, refl, ◌∙◌, arith}
 use Rattle.page.specs.Forest.{find, part_of}
 use Rattle.text.specs.Held.{held}
 use Rattle.text.proofs.Reading.{length-is}

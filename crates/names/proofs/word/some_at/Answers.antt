@@ -1,5 +1,5 @@
 -- A turn tries one word.
-use Rattle.std.proofs.Common.{◌≡◌, length, drop, sym, refl, ◌∙◌}
+use Rattle.std.proofs.Common.{drop, sym, refl, ◌∙◌}
 use Rattle.text.specs.Held.{held}
 use Rattle.names.proofs.Occurs.{words-on, words-here, words-end}
 use Rattle.names.proofs.word.some_at.Goals as goal

@@ -1,5 +1,5 @@
 -- A turn compares one byte.
-use Rattle.std.proofs.Common.{◌≡◌, ◌+◌, length, drop, sym, refl, ap, ◌∙◌, arith}
+use Rattle.std.proofs.Common.{◌+◌, drop, sym, ap, ◌∙◌, arith}
 use Rattle.std.proofs.lemmas.List.{length-drop}
 use Rattle.page.specs.Forest.{find, part_of}
 use Rattle.text.specs.Held.{held}

@@ -3,7 +3,7 @@ use Rattle.std.proofs.Common.{◌≡◌, sym, ap, ◌∙◌, subst}
 use Rattle.utf8.specs.Decode.{scalars_of}
 use Rattle.page.specs.Forest.{find, kids_of}
 use Rattle.dom.specs.Deep.{deep}
-use Rattle.scorer.specs.Content.{score_by, score_of, Scored}
+use Rattle.scorer.specs.Content.{score_of, Scored}
 use Rattle.scorer.proofs.Deeps.{deep-chars, score-of, scored}
 use Rattle.scorer.proofs.content.content_score.Goals as goal
 

@@ -4,7 +4,6 @@ use Rattle.std.proofs.lemmas.Int.{ints}
 use Rattle.page.specs.declared.kind.Part.TheVariants.{Value}
 use Rattle.page.specs.Forest.{find, attrs_of, part_of}
 use Rattle.text.specs.Held.{bytes_in}
-use Rattle.names.specs.Attrs.{value_of}
 use Rattle.names.specs.Words.{has_word, positive, negative}
 use Rattle.names.proofs.Attributes.{value_none, value-part}
 use Rattle.scorer.specs.Weight.{gain, value_weight}

@@ -1,5 +1,5 @@
 -- A turn eats one character.
-use Rattle.std.proofs.Common.{◌≡◌, ◌+◌, ◌∷◌, drop, sym, refl, ap, ◌∙◌, arith}
+use Rattle.std.proofs.Common.{◌+◌, ◌∷◌, drop, sym, refl, ap, ◌∙◌, arith}
 use Rattle.std.proofs.lemmas.List.{drop-drop}
 use Rattle.utf8.specs.Decode.{scalars_of}
 use Rattle.utf8.proofs.Scalars.{scalars_of-some, scalars_of-none}

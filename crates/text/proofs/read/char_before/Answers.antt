@@ -1,5 +1,5 @@
 -- The first byte decides below 0x80; else the next four do.
-use Rattle.std.proofs.Common.{◌≡◌, ◌+◌, ◌-◌, ◌<◌, ◌≤◌, length, get_or, take, drop, IfSome, Some, sym, refl, ap, ◌∙◌, subst, arith}
+use Rattle.std.proofs.Common.{◌≡◌, ◌+◌, ◌-◌, ◌<◌, ◌≤◌, get_or, take, drop, IfSome, Some, sym, ap, ◌∙◌, subst, arith}
 use Rattle.std.proofs.lemmas.List.{length-take, length-drop, drop_all, drop_more}
 use Rattle.utf8.specs.Decode.{decoded}
 use Rattle.utf8.proofs.Rows.{decoded-one}

@@ -1,5 +1,5 @@
 -- The length of the part bounds where a character ends.
-use Rattle.std.proofs.Common.{◌≡◌, ℕ, ◌+◌, ◌^◌, ◌<◌, ◌≤◌, IfSome, Some, None, Option, refl, arith}
+use Rattle.std.proofs.Common.{ℕ, ◌+◌, ◌^◌, ◌<◌, ◌≤◌, IfSome, Some, None, Option, arith}
 use Rattle.page.specs.Forest.{find, part_of}
 use Rattle.text.proofs.Reading.{length-is}
 use Rattle.text.proofs.read.char_of.Goals as goal

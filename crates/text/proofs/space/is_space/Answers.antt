@@ -1,6 +1,6 @@
 -- A turn passes one entry of the table.
-use Rattle.std.proofs.Common.{◌≡◌, true, false, sym, refl, ◌∙◌, arith}
-use Rattle.text.specs.Space.{spaces, listed, space}
+use Rattle.std.proofs.Common.{true, false, sym, refl, ◌∙◌}
+use Rattle.text.specs.Space.{spaces, space}
 use Rattle.text.proofs.Table.{pass, found, missed, printed, by-table, space-white}
 use Rattle.text.proofs.space.is_space.Goals as goal
 

@@ -1,7 +1,7 @@
-use Rattle.std.proofs.Common.{◌≡◌, ℕ, ◌+◌, ◌≤◌, List, length, sym, refl, ap, ◌∙◌, subst, arith}
+use Rattle.std.proofs.Common.{◌≡◌, ℕ, ◌+◌, ◌≤◌, List, length, ap, ◌∙◌, arith}
 use Rattle.uri.specs.Components.{Parts, components}
 use Rattle.uri.specs.Resolve.{recompose, transform, resolved}
-use Rattle.uri.specs.View.{Draft, parts, draft, finished, room}
+use Rattle.uri.specs.View.{Draft, draft, finished, room}
 use Rattle.uri.proofs.Splits.{recompose-components}
 use Rattle.uri.proofs.Targets.{finished-draft, draft-room}
 use Rattle.uri.proofs.compose.put_resolved.Goals as goal

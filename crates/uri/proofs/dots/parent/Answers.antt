@@ -1,4 +1,4 @@
-use Rattle.std.proofs.Common.{sym, ◌∙◌}
+use Rattle.std.proofs.Common.{sym}
 use Rattle.uri.proofs.Slashes.{parent-some}
 use Rattle.uri.proofs.dots.parent.Goals as goal
 

@@ -1,4 +1,4 @@
-use Rattle.std.proofs.Common.{◌≡◌, ◌-◌, length}
+use Rattle.std.proofs.Common.{◌-◌, length}
 use Rattle.uri.proofs.Turns.{Going}
 use Rattle.uri.proofs.dots.remove_dots.Given as goal
 

@@ -1,10 +1,10 @@
-use Rattle.std.proofs.Common.{◌≡◌, ℕ, ◌<◌, true, false, cond, not, Some, None, unwrap_or, sym, refl, ap, ◌∙◌, subst, arith, rules}
+use Rattle.std.proofs.Common.{◌≡◌, ℕ, true, false, cond, not, Some, None, unwrap_or, sym, ap, ◌∙◌, subst, rules}
 use Rattle.std.proofs.lemmas.Bool.{ne_eqb}
 use Rattle.builder.specs.declared.refusal.BuildRefusal.TheVariants.{Misplaced}
 use Rattle.builder.proofs.build.Builder.close.Goals.{in-Some, in-None}
 use Rattle.builder.specs.State.{State}
 use Rattle.builder.specs.Events.{close}
-use Rattle.builder.specs.After.{open_node, answer, closed}
+use Rattle.builder.specs.After.{open_node, answer}
 use Rattle.builder.specs.Stored.{state_in}
 use Rattle.builder.specs.Sound.{sound}
 use Rattle.builder.proofs.Granting.{stays-sound}

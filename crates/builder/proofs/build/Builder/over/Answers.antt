@@ -1,8 +1,7 @@
-use Rattle.std.proofs.Common.{◌≡◌, ◌<◌, true, length, sym, refl, ap, ◌∙◌, subst, arith}
+use Rattle.std.proofs.Common.{◌≡◌, ◌<◌, true, length, sym, refl, subst, arith}
 use Rattle.builder.specs.State.{State}
-use Rattle.builder.specs.Events.{Event}
 use Rattle.builder.specs.Sound.{sound}
-use Rattle.builder.specs.Law.{begun, Law}
+use Rattle.builder.specs.Law.{Law}
 use Rattle.builder.proofs.Begun.{begun-sound, begun-law, begin-full, begin-free}
 use Rattle.builder.proofs.build.Builder.over.Goals as goal
 

@@ -1,10 +1,10 @@
-use Rattle.std.proofs.Common.{◌≡◌, true, sym, refl, ap, ◌∙◌}
+use Rattle.std.proofs.Common.{◌≡◌, sym, ap, ◌∙◌}
 use Rattle.page.specs.Forest.{height_of}
 use Rattle.table.specs.Table.{Table, tree_of}
 use Rattle.table.specs.Checks.{accepts}
 use Rattle.table.proofs.Deepest.{height-deepest}
 use Rattle.linked.specs.Records.{table_in, table_of, all_linked}
-use Rattle.builder.specs.State.{State, used_nodes, used_table}
+use Rattle.builder.specs.State.{used_table}
 use Rattle.builder.specs.Stored.{state_in}
 use Rattle.builder.proofs.Sound.{sound-is, table-accepted}
 use Rattle.builder.proofs.build.Builder.page.Goals as goal

@@ -1,4 +1,4 @@
-use Rattle.std.proofs.Common.{◌≡◌, ◌+◌, ◌≤◌, length, sym, refl, ap, ◌∙◌, arith, rules}
+use Rattle.std.proofs.Common.{◌+◌, ◌≤◌, length, ap, ◌∙◌, arith}
 use Rattle.builder.specs.Stored.{state_in}
 use Rattle.builder.specs.After.{put, with_attr}
 use Rattle.builder.proofs.Puts.{put-put}

@@ -1,4 +1,4 @@
-use Rattle.std.proofs.Common.{◌≡◌, sym, ap, ◌∙◌, arith}
+use Rattle.std.proofs.Common.{sym, ◌∙◌, arith}
 use Rattle.table.proofs.Accepted.{accepted}
 use Rattle.table.proofs.Reading.{inside}
 use Rattle.linked.specs.Records.{table_in}

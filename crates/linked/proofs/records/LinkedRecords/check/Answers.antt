@@ -1,10 +1,10 @@
-use Rattle.std.proofs.Common.{◌≡◌, ℕ, ◌+◌, ◌-◌, true, ◌&&◌, List, [], ◌∷◌, ◌++◌, length, Some, None, Option, sym, refl, ap, ◌∙◌, arith}
+use Rattle.std.proofs.Common.{◌≡◌, ℕ, ◌+◌, ◌-◌, true, ◌&&◌, List, [], ◌∷◌, length, Some, None, Option, sym, refl, ap, ◌∙◌, arith}
 use Rattle.std.proofs.lemmas.Result.{err_from_is_err_and}
 use Rattle.std.proofs.lemmas.Bool.{and_parts}
 use Rattle.table.specs.declared.record.Section.TheVariants.{Nodes, Attributes, Bytes}
 use Rattle.table.specs.declared.record.Check.{Check}
 use Rattle.table.specs.declared.record.Check.TheVariants.{CountInRange, SectionsEnd}
-use Rattle.table.specs.Checks.{first_no, granted, kind_ok, depth_ok, each, of_node, of_nodes}
+use Rattle.table.specs.Checks.{first_no, kind_ok, depth_ok, of_node, of_nodes}
 use Rattle.table.proofs.Asked.{of-next, of-last, no-next, no-here, stays, goes_on, all-granted}
 use Rattle.table.proofs.Each.{each_more}
 use Rattle.linked.specs.declared.records.LinkedRecords.{LinkedRecords}

@@ -1,7 +1,7 @@
-use Rattle.std.proofs.Common.{◌≡◌, ℕ, suc, ◌+◌, ◌-◌, ◌<◌, ◌≤◌, List, length, sym, refl, ap, ◌∙◌, add-one, arith}
+use Rattle.std.proofs.Common.{◌≡◌, ℕ, suc, ◌+◌, ◌-◌, ◌<◌, length, sym, ap, ◌∙◌, add-one, arith}
 use Rattle.table.specs.Table.{Table}
 use Rattle.table.specs.Links.{depth_at}
-use Rattle.linked.specs.Links.{first_at, sibling_link}
+use Rattle.linked.specs.Links.{first_at}
 use Rattle.linked.specs.Records.{table_in}
 use Rattle.linked.proofs.Lists.{length-records}
 use Rattle.linked.proofs.Depths.{at-deeper, at_here, at-higher}
