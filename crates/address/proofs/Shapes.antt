@@ -5,7 +5,7 @@ use Rattle.std.proofs.lemmas.Bool.Decides.{nat_tests}
 use Rattle.std.proofs.ByRecursion.{Decides-by_and}
 use Rattle.address.specs.declared.refusal.BaseRefusal.{BaseRefusal}
 use Rattle.address.specs.declared.refusal.BaseRefusal.TheVariants.{NotABase}
-use Rattle.std.specs.List.{AllByRecursion as All}
+use Rattle.std.specs.List.{AllByRecursion}
 use Rattle.uri.specs.Bytes.{among, after}
 use Rattle.uri.specs.Components.{Parts, scheme_cut, authority_cut, from_path, components}
 use Rattle.address.specs.Join.{visible, each, letter, scheme_byte, is_scheme_name, is_scheme, is_authority, shaped, is_base}
@@ -25,7 +25,7 @@ seen b = (
   λ h. and_from (leb 33 b) (leb b 126) (le-leb 33 b h.0) (le-leb b 126 h.1),
 )
 
-all_seen : (bs : List ℕ) → Decides (each visible bs) (All (λ b. (33 ≤ b) × (b ≤ 126)) bs)
+all_seen : (bs : List ℕ) → Decides (each visible bs) (AllByRecursion (λ b. (33 ≤ b) × (b ≤ 126)) bs)
 all_seen bs = Decides-by_and visible (λ b. (33 ≤ b) × (b ≤ 126)) (each visible) seen refl (λ _ _. refl) bs
 
 -- a scheme has no delimiter
@@ -46,7 +46,7 @@ name_free (b ∷ bs) h =
     (λ e. let z : ◌≡◌ {A = ℕ} 0 1 = cc in omega arith, (letter-free b p.0, bytes-free bs p.1))
 
 -- from the components to the bytes
-from_parts : (bs : List ℕ) (p : Parts) → recompose p ≡ bs → Formed p → length bs ≤ 2000 → All (λ b. (33 ≤ b) × (b ≤ 126)) bs → shaped p ≡ true → Shaped bs
+from_parts : (bs : List ℕ) (p : Parts) → recompose p ≡ bs → Formed p → length bs ≤ 2000 → AllByRecursion (λ b. (33 ≤ b) × (b ≤ 126)) bs → shaped p ≡ true → Shaped bs
 from_parts bs p whole h few vis e =
     let q = and_parts (is_scheme p.scheme) (is_authority p.authority && is_some (after (codes "/") p.path)) e in
     let r = and_parts (is_authority p.authority) (is_some (after (codes "/") p.path)) q.1 in

@@ -79,11 +79,11 @@ more-last [] z a = refl
 more-last (x ∷ []) z a = refl
 more-last (x ∷ y ∷ ys) z a = ap (λ l. x ∷ l) (more-last (y ∷ ys) z a)
 
-abbrev Some-rows : List Row → Type 0
-Some-rows [] = ⊥
-Some-rows (x ∷ xs) = Unit {0}
+abbrev SomeRows : List Row → Type 0
+SomeRows [] = ⊥
+SomeRows (x ∷ xs) = Unit {0}
 
-more-next : (x : Row) (xs : List Row) (a : List ℕ × List ℕ) → Some-rows xs → more_attr (x ∷ xs) a ≡ x ∷ more_attr xs a
+more-next : (x : Row) (xs : List Row) (a : List ℕ × List ℕ) → SomeRows xs → more_attr (x ∷ xs) a ≡ x ∷ more_attr xs a
 more-next x [] a h = absurd h
 more-next x (y ∷ ys) a h = refl
 
@@ -144,7 +144,7 @@ mixed-fresh b (doctype c ∷ es) h = refl
 mixed-fresh b (close ∷ es) h = refl
 
 -- an element that was just given is a row
-fresh-rows : (d : ℕ) (es : List Event) → ends_fresh false es ≡ true → Some-rows (rows_at d es)
+fresh-rows : (d : ℕ) (es : List Event) → ends_fresh false es ≡ true → SomeRows (rows_at d es)
 fresh-rows d [] h = absurd (both_ways false refl h)
 fresh-rows d (element c ∷ es) h = tt
 fresh-rows d (attribute n v ∷ es) h = fresh-rows d es h

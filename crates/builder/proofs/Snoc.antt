@@ -13,11 +13,11 @@ use Rattle.table.specs.Tabulate.{joined, bytes_of, node_records, attr_records, a
 use Rattle.table.proofs.Lawful.{form}
 use Rattle.table.proofs.Accepted.{Accepted, laid, table-formed, table-texts}
 use Rattle.table.proofs.Tabulated.{tabulated}
-use Rattle.table.proofs.Reread.{attr_count, root_empty, RowsFit, length-all_attrs}
+use Rattle.table.proofs.Reread.{attr_count, RootEmpty, RowsFit, length-all_attrs}
 
 -- the rows of accepted records fit
 module _ (t : Table) (acc : Accepted t) where
-  root-empty : (n : ℕ) → n ≡ length t.nodes → root_empty (rows_from t 0 n)
+  root-empty : (n : ℕ) → n ≡ length t.nodes → RootEmpty (rows_from t 0 n)
   root-empty zero e = tt
   root-empty (suc k) e =
       let g = acc.good 0 (omega arith) in
@@ -108,7 +108,7 @@ pub formed-parts : (xs ys : List Row) → RowsFormed (xs ++ ys) → RowsFormed x
 formed-parts [] ys h = (tt, h)
 formed-parts (x ∷ xs) ys h = let r = formed-parts xs ys h.2 in ((h.0, h.1, r.0), r.1)
 
-root-append : (xs ys : List Row) → (xs ≡ [] → ⊥) → root_empty xs → root_empty (xs ++ ys)
+root-append : (xs ys : List Row) → (xs ≡ [] → ⊥) → RootEmpty xs → RootEmpty (xs ++ ys)
 root-append [] ys n h = absurd (n refl)
 root-append (x ∷ xs) ys n h = h
 

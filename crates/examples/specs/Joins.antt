@@ -1,6 +1,6 @@
 -- Examples of RFC 3986, section 5.4: references on the base of that section, and what joining gives.
 use Rattle.std.specs.Prelude.{◌≡◌, ℕ, List, [], ◌∷◌, Some, codes}
-use Rattle.std.specs.List.{AllByRecursion as All}
+use Rattle.std.specs.List.{AllByRecursion}
 use Rattle.address.specs.Join.{joined}
 
 abbrev pub base : List ℕ
@@ -23,5 +23,5 @@ table =
     ∷ (codes "http:g", codes "http:g")
     ∷ []
 
-abbrev pub Joins-stand : Type 0
-Joins-stand = All (λ e. joined base e.0 ≡ Some e.1) table
+abbrev pub JoinsStand : Type 0
+JoinsStand = AllByRecursion (λ e. joined base e.0 ≡ Some e.1) table

@@ -1,6 +1,6 @@
 -- Worked examples of text, page files and their outlines.
 use Rattle.std.specs.Prelude.{◌≡◌, ℕ, Bool, true, false, List, [], ◌∷◌, ◌++◌, replicate, codes}
-use Rattle.std.specs.List.{AllByRecursion as All}
+use Rattle.std.specs.List.{AllByRecursion}
 use Rattle.utf8.specs.Table.{well_formed}
 use Rattle.page.specs.declared.kind.NodeKind.TheVariants.{Document, Text, Element}
 use Rattle.page.specs.Forest.{Forest, none, node}
@@ -24,7 +24,7 @@ texts =
     ∷ []
 
 abbrev pub Texts : Type 0
-Texts = All (λ e. well_formed e.0 ≡ e.1) texts
+Texts = AllByRecursion (λ e. well_formed e.0 ≡ e.1) texts
 
 pub record Page : Type 0 where
   pub tree : Forest
@@ -54,7 +54,7 @@ pages =
     ∷ []
 
 abbrev pub Pages : Type 0
-Pages = All (λ (e : Page). (encode e.tree ≡ e.file) × (outline_of e.file ≡ e.text)) pages
+Pages = AllByRecursion (λ (e : Page). (encode e.tree ≡ e.file) × (outline_of e.file ≡ e.text)) pages
 
 -- files that are refused, and the line that is printed
 abbrev pub refusals : List (List ℕ × List ℕ)
@@ -66,4 +66,4 @@ refusals =
     ∷ []
 
 abbrev pub Refused : Type 0
-Refused = All (λ e. outline_of e.0 ≡ e.1) refusals
+Refused = AllByRecursion (λ e. outline_of e.0 ≡ e.1) refusals

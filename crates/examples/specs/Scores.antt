@@ -1,6 +1,6 @@
 -- Worked examples of scores.
 use Rattle.std.specs.Prelude.{◌≡◌, ℕ, true, false, List, [], ◌∷◌, ℤ, pos, negsuc}
-use Rattle.std.specs.List.{AllByRecursion as All}
+use Rattle.std.specs.List.{AllByRecursion}
 use Rattle.score.specs.declared.points.Points.{Points}
 use Rattle.score.specs.Exact.{Exactly}
 use Rattle.rounded.specs.Roundeds as rounded
@@ -27,11 +27,11 @@ table =
     ∷ record { points = plain; numerator = pos 6; denominator = 1 }
     ∷ []
 
-abbrev pub Exact-scores : Type 0
-Exact-scores = All (λ e. Exactly e.points e.numerator e.denominator) table
+abbrev pub ExactScores : Type 0
+ExactScores = AllByRecursion (λ e. Exactly e.points e.numerator e.denominator) table
 
 -- neither exceeds the other as a fraction, and rounded the one without links exceeds
-abbrev pub Ranked-differently : Type 0
-Ranked-differently =
+abbrev pub RankedDifferently : Type 0
+RankedDifferently =
     (fraction.greater (fraction.fraction linked) (fraction.fraction plain) ≡ false) × (fraction.greater (fraction.fraction plain) (fraction.fraction linked) ≡ false)
     × (rounded.greater (rounded.rounded linked) (rounded.rounded plain) ≡ false) × (rounded.greater (rounded.rounded plain) (rounded.rounded linked) ≡ true)

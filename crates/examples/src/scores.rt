@@ -1,7 +1,7 @@
 // Worked examples of exact scores, and of two candidates that the kinds rank differently.
 ghost use Rattle.std.specs.Prelude.{◌≡◌, map, Some};
 ghost use Rattle.fraction.specs.Fractions.{fraction};
-ghost use Rattle.examples.specs.Scores.{table, Exact-scores, Ranked-differently};
+ghost use Rattle.examples.specs.Scores.{table, ExactScores, RankedDifferently};
 
 use fraction::Fraction;
 use rounded::Rounded;
@@ -10,7 +10,7 @@ use score::{Points, ScoreKind, first_greatest};
 // The fractions that the examples settle to: 280 / 60, which is 14 / 3, and three that are 6.
 pub fn exact_scores() -> [Fraction; 4]
     ensures value { result ≡ map (λ e. fraction e.points) table }
-    ensures exact { Exact-scores }
+    ensures exact { ExactScores }
 {
     [
         Fraction::settle(Points {
@@ -35,7 +35,7 @@ pub fn exact_scores() -> [Fraction; 4]
 // The first greatest of the candidates (30, 20, 12) and (12, 20, 0), by the rounded and by the fraction kind: both are exactly 6.
 pub fn greatest_of_two() -> (Option<usize>, Option<usize>)
     ensures value { result ≡ (Some 1, Some 0) }
-    ensures ranked { Ranked-differently }
+    ensures ranked { RankedDifferently }
 {
     let linked = Points {
         h: 30,

@@ -1,7 +1,7 @@
 -- The bound of a choice, from the laws of order and distance alone. Assumes nothing.
 use Rattle.std.proofs.Common.{◌≡◌, ℕ, ◌<◌, Bool, true, false, cond, T, List, map, length, get_or, pos, Some, None, sym, ap, ◌∙◌, subst, inl, inr, arith}
 use lib.ListN.{length-map}
-use Rattle.std.specs.List.{AllByRecursion as All}
+use Rattle.std.specs.List.{AllByRecursion}
 use Rattle.std.proofs.lemmas.List.{get_or-map}
 use Rattle.std.proofs.ByRecursion.{All-get_or, All-from_get_or, has_get_or}
 use Rattle.score.specs.declared.points.Points.{Points}
@@ -18,7 +18,7 @@ settled_at : {S : Type 0} (settled : Points → S) (ps : List Points) (m : ℕ) 
 settled_at settled ps m d l = get_or-map settled ps m (integer (pos 0)) d l
 
 pub bounded : {S : Type 0} (k : ℕ) (settled : Points → S) (exceeds : S → S → Bool) → Order exceeds → Distance k settled exceeds
-    → (ps : List Points) → All (λ p. T (in_range p)) ps → (i : ℕ) → FirstGreatest exceeds (map settled ps) i → Bounded k settled exceeds ps i
+    → (ps : List Points) → AllByRecursion (λ p. T (in_range p)) ps → (i : ℕ) → FirstGreatest exceeds (map settled ps) i → Bounded k settled exceeds ps i
 bounded k settled exceeds order distance ps within i first =
     let zero = integer (pos 0) in
     let scores = map settled ps in
@@ -49,7 +49,7 @@ bounded k settled exceeds order distance ps within i first =
 pub none-bounded : {S : Type 0} (settled : Points → S) (scores : List S) (ps : List Points) → length scores ≡ 0 → scores ≡ map settled ps → length ps ≡ 0
 none-bounded settled scores ps e s = sym (length-map ps settled) ∙ ap length (sym s) ∙ e
 
-pub top-bounded-none : (k : ℕ) (ps : List Points) → length ps ≡ 0 → All (λ p. AtMostOwn k p) ps
+pub top-bounded-none : (k : ℕ) (ps : List Points) → length ps ≡ 0 → AllByRecursion (λ p. AtMostOwn k p) ps
 top-bounded-none k ps e = All-from_get_or (λ p. AtMostOwn k p) ps (integer (pos 0)) (λ m l. absurd (never m l))
   where
     never : (m : ℕ) → m < length ps → ⊥

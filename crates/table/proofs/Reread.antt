@@ -24,14 +24,14 @@ abbrev pub attr_count : List Row → ℕ
 attr_count [] = 0
 attr_count (x ∷ xs) = length x.attrs + attr_count xs
 
-abbrev pub root_empty : List Row → Type 0
-root_empty [] = Unit {0}
-root_empty (x ∷ xs) = x.content ≡ []
+abbrev pub RootEmpty : List Row → Type 0
+RootEmpty [] = Unit {0}
+RootEmpty (x ∷ xs) = x.content ≡ []
 
 -- rows that fit a stored page
 pub record RowsFit (xs : List Row) : Type 0 where
   pub shape : formed xs ≡ true
-  pub root : root_empty xs
+  pub root : RootEmpty xs
   pub texts : RowsFormed xs
   pub attrs : attr_count xs ≤ 8192
   pub bytes : length (all_bytes xs) ≤ 131072

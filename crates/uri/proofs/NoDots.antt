@@ -3,7 +3,7 @@ use Rattle.std.proofs.Common.{◌≡◌, ℕ, zero, suc, Bool, true, false, cond
 use Rattle.std.proofs.lemmas.Slice.Eq.{bytes_eq-Decides}
 use Rattle.std.proofs.ByRecursion.{All-append}
 use Rattle.std.proofs.lemmas.Bool.{both_ways, eqb-true}
-use Rattle.std.specs.List.{AllByRecursion as All}
+use Rattle.std.specs.List.{AllByRecursion}
 use Rattle.std.specs.Str.{bytes_eq}
 use Rattle.uri.specs.Bytes.{among, front, rest, after}
 use Rattle.uri.specs.Dots.{remove_dots, farther, rightmost, before, without_last}
@@ -48,7 +48,7 @@ front-without ds (b ∷ bs) = go (among ds b) refl (front-without ds bs)
     go true e h = tt
     go false e h = (e, h)
 
-all_left : (ss ts : List (List ℕ)) → All NotDots (ss ++ ts) → All NotDots ss
+all_left : (ss ts : List (List ℕ)) → AllByRecursion NotDots (ss ++ ts) → AllByRecursion NotDots ss
 all_left [] ts h = tt
 all_left (s ∷ ss) ts h = (h.0, all_left ss ts h.1)
 
@@ -71,7 +71,7 @@ without_last-no-dots output h = go (rightmost output) refl
     go : (o : Option ℕ) → rightmost output ≡ o → NoDots (before o output)
     go None e = empty-no-dots
     go (Some i) e =
-        all_left (segments (take i output)) (segments (drop (suc i) output)) (subst (All NotDots) (ap segments (rightmost-split output i e) ∙ segments-slash (take i output) (drop (suc i) output)) h)
+        all_left (segments (take i output)) (segments (drop (suc i) output)) (subst (AllByRecursion NotDots) (ap segments (rightmost-split output i e) ∙ segments-slash (take i output) (drop (suc i) output)) h)
 
 -- a dot segment at the front, with an end or a slash behind it, is what another rule takes
 taken-dots : (p input behind : List ℕ) → input ≡ p ++ behind → Begins (codes "/") behind → bytes_eq input p ≡ false → after (p ++ codes "/") input ≡ None → ⊥
@@ -107,7 +107,7 @@ moved-no-dots b bs output plain or h = go (eqb b 47) refl or
     slash : b ≡ 47 → NoDots (output ++ b ∷ seg)
     slash e =
         subst (λ z. NoDots (output ++ z ∷ seg)) (sym e)
-        (subst (All NotDots) (sym (segments-slash output seg ∙ ap (λ z. segments output ++ z) (segments-one seg (front-without (codes "/") bs))))
+        (subst (AllByRecursion NotDots) (sym (segments-slash output seg ∙ ap (λ z. segments output ++ z) (segments-one seg (front-without (codes "/") bs))))
         (All-append NotDots (segments output) (seg ∷ []) h
         ((
           (
@@ -121,7 +121,7 @@ moved-no-dots b bs output plain or h = go (eqb b 47) refl or
     other e none =
         let whole : b ∷ bs ≡ (b ∷ seg) ++ behind = ap (λ z. b ∷ z) (sym (front_rest (codes "/") bs)) in
         subst (λ z. NoDots (z ++ b ∷ seg)) (sym none)
-        (subst (All NotDots) (sym (segments-one (b ∷ seg) (ap (λ t. t || false) e, front-without (codes "/") bs))) (
+        (subst (AllByRecursion NotDots) (sym (segments-one (b ∷ seg) (ap (λ t. t || false) e, front-without (codes "/") bs))) (
           (
             λ d. taken-dots (codes ".") (b ∷ bs) behind (whole ∙ ap (λ z. z ++ behind) d) (rest-begins (codes "/") bs) plain.no_only plain.no_dot,
             λ d. taken-dots (codes "..") (b ∷ bs) behind (whole ∙ ap (λ z. z ++ behind) d) (rest-begins (codes "/") bs) plain.no_only_up plain.no_dotdot,

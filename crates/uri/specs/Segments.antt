@@ -1,6 +1,6 @@
 -- The segments of a path.
 use Rattle.std.specs.Prelude.{◌≡◌, ℕ, false, cond, List, [], ◌∷◌, codes, ◌==◌, ◌≢◌}
-use Rattle.std.specs.List.{AllByRecursion as All}
+use Rattle.std.specs.List.{AllByRecursion}
 use Rattle.uri.specs.Bytes.{among}
 
 -- a byte at the front of the first segment
@@ -18,8 +18,8 @@ NotDots s = (s ≢ codes ".") × (s ≢ codes "..")
 
 -- no segment is "." or ".."
 abbrev pub NoDots : List ℕ → Type 0
-NoDots path = All NotDots (segments path)
+NoDots path = AllByRecursion NotDots (segments path)
 
 -- none of the bytes ds
 abbrev pub Without : List ℕ → List ℕ → Type 0
-Without ds bs = All (λ b. among ds b ≡ false) bs
+Without ds bs = AllByRecursion (λ b. among ds b ≡ false) bs

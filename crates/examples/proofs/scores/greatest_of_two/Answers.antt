@@ -4,7 +4,7 @@ use Rattle.std.specs.Float.{float_is_finite}
 use Rattle.score.specs.Greatest.{first_greatest}
 use Rattle.rounded.specs.Roundeds as rounded
 use Rattle.fraction.specs.Fractions as fraction
-use Rattle.examples.specs.Scores.{linked, plain, Ranked-differently}
+use Rattle.examples.specs.Scores.{linked, plain, RankedDifferently}
 use Rattle.examples.proofs.scores.greatest_of_two.Goals as goal
 
 of-rounded : first_greatest rounded.greater (rounded.rounded linked ∷ rounded.rounded plain ∷ []) ≡ Some 1
@@ -14,7 +14,7 @@ of-rounded = refl
 of-fractions : first_greatest fraction.greater (fraction.fraction linked ∷ fraction.fraction plain ∷ []) ≡ Some 0
 of-fractions = refl
 
-ranked : Ranked-differently
+ranked : RankedDifferently
 unfolding of_bits of_int div sub mul round lt float_is_finite
 ranked = (refl, refl, refl, refl)
 
