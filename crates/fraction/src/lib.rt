@@ -11,7 +11,7 @@ ghost use Rattle.fraction.specs.Cross;
 ghost use Rattle.score.proofs.Ranges.{range-out};
 ghost use Rattle.score.proofs.Exact.{over};
 ghost use Rattle.fraction.specs.Cross.{exceeds-over};
-ghost use Rattle.std.proofs.Common.{rules};
+ghost use Rattle.std.proofs.Common.{lit≤};
 
 use score::{Points, ScoreKind};
 pub use step::fraction_step;
@@ -57,7 +57,7 @@ impl ScoreKind for Fraction {
 
     ghost exceeds = { greater };
 
-    ghost small = { Prim.search rules };
+    ghost small = { lit≤ tt };
 
     ghost order = { Cross.order };
 

@@ -6,7 +6,7 @@ mod step;
 mod tests;
 
 ghost use Rattle.std.specs.Prelude.{◌≡◌, T};
-ghost use Rattle.std.proofs.Common.{lit≤, rules};
+ghost use Rattle.std.proofs.Common.{lit≤};
 ghost use Rattle.std.specs.Float.{float_is_finite};
 ghost use Rattle.score.specs.Ranges.{in_range, in_range_or_zero};
 ghost use Rattle.rounded.specs.Roundeds.{rounded, finite_or_zero, greater};
@@ -50,7 +50,7 @@ impl ScoreKind for Rounded {
 
     ghost exceeds = { greater };
 
-    ghost small = { Prim.search rules };
+    ghost small = { lit≤ tt };
 
     ghost order = { Compared.order };
 
