@@ -1,5 +1,5 @@
 -- An ordered tree as first child and next sibling: a node, the forest of its children, and the forest of its later siblings.
-use Rattle.std.specs.Prelude.{ℕ, suc, ◌+◌, ◌-◌, max, Bool, false, cond, ◌||◌, List, [], length, Some, None, Option, ◌==◌}
+use Rattle.std.specs.Prelude.{ℕ, suc, ◌+◌, ◌-◌, max, Bool, false, cond, ◌||◌, List, [], ◌∷◌, length, Some, None, Option, ◌==◌}
 use Rattle.std.specs.List.{slice_get}
 use Rattle.page.specs.declared.kind.Part.{Part}
 use Rattle.page.specs.declared.kind.Part.TheVariants.{Content, Name, Value}
@@ -118,3 +118,13 @@ from t (Some n) = find t n
 abbrev pub among : Forest → ℕ → Bool
 among none n = false
 among (node m k c a kids rest) n = m == n || among rest n
+
+-- each node of the first level, with what stands under it and behind it
+abbrev pub trees : Forest → List Forest
+trees none = []
+trees (node m k c a kids rest) = node m k c a kids rest ∷ trees rest
+
+-- the node at a front, if there is one, with what stands under it and behind it
+abbrev pub tree_or_none : Forest → Option Forest
+tree_or_none none = None
+tree_or_none (node m k c a kids rest) = Some (node m k c a kids rest)

@@ -2,7 +2,7 @@
 use Rattle.std.specs.Prelude.{◌≡◌, ℕ, ◌<◌, ◌≤◌, true, false, List, [], ◌∷◌, is_some}
 use Rattle.utf8.specs.Table.{well_formed}
 use Rattle.page.specs.Kinds.{is_element, is_document}
-use Rattle.page.specs.Forest.{Forest, none, node, has, head_of, kids_of, rest_of, texts, levels}
+use Rattle.page.specs.Forest.{Forest, none, node, has, head_of, kids_of, rest_of, size, texts, levels}
 
 -- no number stands twice
 abbrev pub Unique : Forest → Type 0
@@ -47,3 +47,12 @@ pub record Kept (bound : ℕ) (t : Forest) : Type 0 where
   pub formed : WellFormed t
   pub plain : Plain t
   pub inner : Inner (kids_of t)
+
+-- and of each node, with what stands under it and behind it
+pub record KeptNode (t : Forest) : Type 0 where
+  pub unique : Unique t
+  pub few : size t ≤ 8192
+  pub flat : levels t ≤ 64
+  pub short : texts t ≤ 131072
+  pub formed : WellFormed t
+  pub plain : Plain t

@@ -1,3 +1,4 @@
 pub mod Kinds
 pub mod Forest
 pub mod Kept
+pub mod Coding

@@ -1,22 +1,17 @@
 // How deep a page is.
-ghost use Rattle.std.specs.Prelude.{◌≡◌, true};
-ghost use Rattle.page.specs.Forest.{find, has, kids_of, levels, height_of};
+ghost use Rattle.std.specs.Prelude.{◌≡◌};
+ghost use Rattle.page.specs.Forest.{kids_of, levels, height_of};
 
+use crate::node::Node;
 use crate::page::Page;
 
-// How many levels stand under the node n. It calls itself once a level, and a page has at most 64.
-fn levels_under<P: Page>(p: &P, n: usize) -> usize
-    requires { has (P.tree p.now) n ≡ true }
-    ensures { result ≡ levels (kids_of (find (P.tree p.now) n)) }
+// How many levels stand under a node. It calls itself once a level, and a page has at most 64.
+fn levels_under<P: Page>(node: &Node<'_, P>) -> usize
+    ensures { result ≡ levels (kids_of node.now) }
 {
-    let mut most = 0;
-    let mut at = p.first_child_of(n);
-    while let Some(c) = at {
-        let here = levels_under(p, c) + 1;
-        if most < here {
-            most = here;
-        }
-        at = p.next_sibling_of(c);
+    let mut most: usize = 0;
+    for child in node.children() {
+        most = most.max(levels_under(&child) + 1);
     }
     most
 }
@@ -25,7 +20,7 @@ fn levels_under<P: Page>(p: &P, n: usize) -> usize
 pub fn walk_height<P: Page>(p: &P) -> usize
     ensures { result ≡ height_of (P.tree p.now) }
 {
-    levels_under(p, p.root())
+    levels_under(&Node::root(p))
 }
 
 // A page that knows how deep it is; one that stores its height answers at once.

@@ -5,9 +5,11 @@ mod ask;
 mod code;
 mod height;
 mod kind;
+mod node;
 mod page;
 
 pub use ask::Ask;
 pub use height::{Height, walk_height};
 pub use kind::{NodeKind, Part};
+pub use node::{Children, Node};
 pub use page::Page;

@@ -1,49 +1,26 @@
-use Rattle.std.proofs.Common.{◌<◌, sym, ap, ◌∙◌, arith}
-use Rattle.page.specs.Forest.{find, head_of, size, kids_of, levels}
-use Rattle.page.proofs.Walk.{from-kids, from-rest, from_some, from-has, size-parts}
-use Rattle.page.proofs.Parent.{size-find}
-use Rattle.page.proofs.Levels.{size_below, levels-size, levels-parts}
+use Rattle.std.proofs.Common.{◌≡◌, ◌+◌, ◌<◌, max, ap, ◌∙◌, arith}
+use Rattle.page.specs.Forest.{kids_of, levels, size}
+use Rattle.page.proofs.Nodes.{taken, all_taken, levels-kids}
 use Rattle.page.proofs.height.+levels_under.Goals as goal
 
-pub loop-at-init : goal.loop-at-init
-loop-at-init g t c =
-    let p = c.args.p.now in
-    let e = from-kids (g.P.Page.tree p) (g.P.Page.kept p).unique c.args.n c.first_child_of-at.result (c.first_child_of-at.ensures c.requires) in
-    (ap head_of e ∙ sym (c.first_child_of-at.ensures c.requires), omega (arith, ap levels e), omega (arith, ap size e))
+pub levels_under-requires : goal.levels_under-requires
+levels_under-requires g t c κs within =
+    let s = taken c.loop-child.child-iterator c.in-Some.child c.next.new.self c.in-Some.ensures.steps in
+    let less : size (kids_of c.in-Some.child) < t = omega (arith, c.decreases, s.size, c.loop-child.invariant.fewer) in
+    (less, within)
 
-pub levels_under-here-requires : goal.levels_under-here-requires
-levels_under-here-requires g t c κs within =
-    let T = g.P.Page.tree c.args.p.now in
-    let s = from_some T c.loop-at.at c.in-Some.c c.loop-at.invariant.0 c.in-Some.is in
-    let less : size (kids_of (find T c.in-Some.c)) < t = omega (arith, c.decreases, ap size s.0, size-parts (find T c.in-Some.c) c.in-Some.c s.1, c.loop-at.invariant.2) in
-    (less, (within, from-has T c.loop-at.at c.in-Some.c c.loop-at.invariant.0 c.in-Some.is))
+pub overflow_add-levels_under : goal.overflow_add-levels_under
+overflow_add-levels_under g t c =
+    let s = taken c.loop-child.child-iterator c.in-Some.child c.next.new.self c.in-Some.ensures.steps in
+    omega (arith, c.levels_under.ensures, s.levels, c.loop-child.invariant.left, levels-kids c.args.node.now, c.children-child-items.ensures.kept.flat)
 
-pub overflow_add-here : goal.overflow_add-here
-overflow_add-here g t c =
-    let p = c.args.p.now in
-    let T = g.P.Page.tree p in
-    let k = g.P.Page.kept p in
-    let f = find T c.in-Some.c in
-    let s = from_some T c.loop-at.at c.in-Some.c c.loop-at.invariant.0 c.in-Some.is in
-    omega (arith, c.levels_under-here.ensures, levels-size (kids_of f), size-parts f c.in-Some.c s.1, size-find T c.in-Some.c, size_below (g.P.Page.limit p) T k.unique k.below, k.few)
+pub loop-child-preserved : goal.loop-child-preserved
+loop-child-preserved g t c =
+    let s = taken c.loop-child.child-iterator c.in-Some.child c.next.new.self c.in-Some.ensures.steps in
+    record {
+      left = let h : c.max-most.result ≡ max c.loop-child.most (c.levels_under.result + 1) = c.max-most.ensures in omega (arith, h, s.levels, c.loop-child.invariant.left, c.levels_under.ensures);
+      fewer = omega (arith, s.size, c.loop-child.invariant.fewer);
+    }
 
-pub loop-at-smaller : goal.loop-at-smaller
-loop-at-smaller g t c =
-    let p = c.args.p.now in
-    let T = g.P.Page.tree p in
-    let f = find T c.in-Some.c in
-    let s = from_some T c.loop-at.at c.in-Some.c c.loop-at.invariant.0 c.in-Some.is in
-    let e = from-rest T (g.P.Page.kept p).unique c.in-Some.c c.next_sibling_of-at.result (c.next_sibling_of-at.ensures (from-has T c.loop-at.at c.in-Some.c c.loop-at.invariant.0 c.in-Some.is)) in
-    omega (arith, ap size s.0, size-parts f c.in-Some.c s.1, ap size e)
-
-pub loop-at-preserved : goal.loop-at-preserved
-loop-at-preserved g t c =
-    let p = c.args.p.now in
-    let T = g.P.Page.tree p in
-    let f = find T c.in-Some.c in
-    let s = from_some T c.loop-at.at c.in-Some.c c.loop-at.invariant.0 c.in-Some.is in
-    let e = from-rest T (g.P.Page.kept p).unique c.in-Some.c c.next_sibling_of-at.result (c.next_sibling_of-at.ensures (from-has T c.loop-at.at c.in-Some.c c.loop-at.invariant.0 c.in-Some.is)) in (
-      ap head_of e ∙ sym (c.next_sibling_of-at.ensures (from-has T c.loop-at.at c.in-Some.c c.loop-at.invariant.0 c.in-Some.is)),
-      omega (arith, c.levels_under-here.ensures, ap levels s.0, levels-parts f c.in-Some.c s.1, ap levels e, c.loop-at.invariant.1),
-      omega (arith, ap size s.0, size-parts f c.in-Some.c s.1, ap size e, c.loop-at.invariant.2),
-    )
+pub returns : goal.returns
+returns g t c = omega (arith, ap levels (all_taken c.loop-child.child-iterator c.in-None.ensures.steps.0), c.loop-child.invariant.left)

@@ -1,15 +1,13 @@
 use Rattle.std.proofs.Common.{◌≡◌, ◌≤◌, max}
-use Rattle.page.specs.Forest.{find, kids_of, head_of, size, from, levels}
+use Rattle.page.specs.Forest.{kids_of, size, levels}
+use Rattle.page.specs.Kept.{KeptNode}
 use Rattle.page.proofs.height.+levels_under.Given as goal
 
 abbrev pub decreases-levels_under : goal.decreases-levels_under
-decreases-levels_under g l = size (kids_of (find (g.P.Page.tree l.p.now) l.n))
+decreases-levels_under g l = size (kids_of l.node.now)
 
-abbrev pub invariant-loop-at : goal.invariant-loop-at
-invariant-loop-at g l =
-    let t = g.P.Page.tree l.p in
-    let all = kids_of (find t l.n) in
-    (head_of (from t l.at) ≡ l.at) × (max l.most (levels (from t l.at)) ≡ levels all) × (size (from t l.at) ≤ size all)
-
-abbrev pub decreases-loop-at : goal.decreases-loop-at
-decreases-loop-at g l = size (from (g.P.Page.tree l.p) l.at)
+abbrev pub invariant-loop-child : goal.invariant-loop-child
+invariant-loop-child g l = record {
+  left : max l.most (levels l.child-iterator) ≡ levels (kids_of l.node);
+  fewer : size l.child-iterator ≤ size (kids_of l.node)
+}
