@@ -1,8 +1,8 @@
 -- What a node keeps of its page.
-use Rattle.std.proofs.Common.{◌≡◌, ℕ, ◌+◌, ◌≤◌, max, suc, Bool, true, false, cond, eqb, List, [], ◌∷◌, Some, None, Option, is_some, length, refl, sym, ap, ◌∙◌, arith}
+use Rattle.std.proofs.Common.{◌≡◌, ℕ, ◌+◌, ◌≤◌, max, suc, Bool, true, false, cond, eqb, List, [], ◌∷◌, Some, None, is_some, length, refl, sym, ap, ◌∙◌, arith}
 use Rattle.page.specs.declared.kind.NodeKind.{NodeKind}
-use Rattle.page.specs.Forest.{Forest, none, node, or_else, find, has, head_of, kids_of, rest_of, attrs_of, count_of, size, levels, trees, tree_or_none}
-use Rattle.page.specs.Kept.{Kept, KeptNode, Unique, WellFormed, Plain}
+use Rattle.page.specs.Forest.{Forest, none, node, or_else, find, head_of, kids_of, rest_of, attrs_of, count_of, size, levels, trees, tree_or_none}
+use Rattle.page.specs.Kept.{Kept, KeptNode, WellFormed, Plain}
 use Rattle.page.proofs.Find.{unique-find}
 use Rattle.page.proofs.Walk.{texts-find}
 use Rattle.page.proofs.Parent.{size-find}

@@ -9,6 +9,7 @@ mod node;
 mod page;
 
 pub use ask::Ask;
+pub use code::UnknownKind;
 pub use height::{Height, walk_height};
 pub use kind::{NodeKind, Part};
 pub use node::{Children, Node};

@@ -114,8 +114,11 @@ impl<'p, P: Page> Iterator for Children<'p, P> {
 
     fn next(&mut self) -> Option<Node<'p, P>> {
         let page = self.page;
-        let number = self.next?;
-        self.next = page.next_sibling_of(number);
-        Some(Node { page, number })
+        let first = self.next?;
+        self.next = page.next_sibling_of(first);
+        Some(Node {
+            page,
+            number: first,
+        })
     }
 }

@@ -1,4 +1,4 @@
-use Rattle.std.proofs.Common.{◌≡◌, ◌+◌, ◌<◌, max, ap, ◌∙◌, arith}
+use Rattle.std.proofs.Common.{◌≡◌, ◌+◌, ◌<◌, max, ap, arith}
 use Rattle.page.specs.Forest.{kids_of, levels, size}
 use Rattle.page.proofs.Nodes.{taken, all_taken, levels-kids}
 use Rattle.page.proofs.height.+levels_under.Goals as goal
@@ -18,7 +18,7 @@ pub loop-child-preserved : goal.loop-child-preserved
 loop-child-preserved g t c =
     let s = taken c.loop-child.child-iterator c.in-Some.child c.next.new.self c.in-Some.ensures.steps in
     record {
-      left = let h : c.max-most.result ≡ max c.loop-child.most (c.levels_under.result + 1) = c.max-most.ensures in omega (arith, h, s.levels, c.loop-child.invariant.left, c.levels_under.ensures);
+      left = omega (arith, s.levels, c.loop-child.invariant.left, c.levels_under.ensures);
       fewer = omega (arith, s.size, c.loop-child.invariant.fewer);
     }
 

@@ -1,4 +1,4 @@
-use Rattle.std.proofs.Common.{◌≡◌, true, false, sym, ap, ◌∙◌}
+use Rattle.std.proofs.Common.{◌≡◌, true, false, sym, ap}
 use Rattle.page.specs.Forest.{find, has, tree_or_none}
 use Rattle.page.proofs.Find.{head-find, find_absent}
 use Rattle.page.proofs.Nodes.{tree-some}
