@@ -1,10 +1,12 @@
 -- What the bytes of a character are by the table's rows, and what decoding makes of them.
-use Rattle.std.proofs.Common.{◌≡◌, ℕ, suc, ◌+◌, ◌*◌, ◌%◌, ◌<◌, ◌≤◌, true, false, List, [], ◌∷◌, length, get_or, drop, Some, None, Option, sym, refl, ap, ◌∙◌, inl, inr, add-zero, arith}
-use Rattle.std.proofs.lemmas.List.{length-drop, get_or-drop}
-use Rattle.std.proofs.lemmas.Bool.{and_parts, cases_Bool, cases_lt}
+use Rattle.std.proofs.Common.{◌≡◌, ℕ, zero, suc, ◌+◌, ◌-◌, ◌*◌, ◌%◌, ◌<◌, ◌≤◌, Bool, true, false, List, [], ◌∷◌, length, get_or, take, drop, Some, None, Option, sym, refl, ap, ◌∙◌, inl, inr, arith}
+use Rattle.std.proofs.lemmas.List.{drop-take}
+use Rattle.std.proofs.lemmas.Bool.{and_parts, cases_Bool}
 use Rattle.std.proofs.lemmas.Bool.Decides.{nat_tests}
+use Rattle.std.specs.Bool.{then_some}
+use Rattle.std.specs.List.{list_all}
 use Rattle.utf8.specs.Table.{within, tail, table, begin, counted}
-use Rattle.utf8.specs.Decode.{fits, decoded, width_of, character}
+use Rattle.utf8.specs.Decode.{fits, decoded, width_of, some_width, character}
 
 -- the bytes of a character of two, three and four
 abbrev pub Two : ℕ → ℕ → Type 0
@@ -121,27 +123,67 @@ short (b ∷ c ∷ []) w s h = grind (arith, nat_tests)
 short (b ∷ c ∷ d ∷ []) w s h = grind (arith, nat_tests)
 short (b ∷ c ∷ d ∷ e ∷ t) w s h = grind (arith, nat_tests)
 
-pub third : (l : List ℕ) (w : ℕ) → Says l w → 2 < w → w ≤ length l → within tail (get_or l 2 0) ≡ false → 0 ≡ width_of (decoded l)
-third [] w s h k z = absurd (omega arith)
-third (b ∷ []) w s h k z = absurd (omega arith)
-third (b ∷ c ∷ []) w s h k z = absurd (omega arith)
-third (b ∷ c ∷ d ∷ t) w s h k z = grind (arith, nat_tests)
+-- no row has more than four bytes
+counted_most : (b c : ℕ) → counted (begin table b) c ≤ 4
+counted_most b c = grind (arith, nat_tests)
 
-pub fourth : (l : List ℕ) (w : ℕ) → Says l w → 3 < w → w ≤ length l → within tail (get_or l 3 0) ≡ false → 0 ≡ width_of (decoded l)
-fourth [] w s h k z = absurd (omega arith)
-fourth (b ∷ []) w s h k z = absurd (omega arith)
-fourth (b ∷ c ∷ []) w s h k z = absurd (omega arith)
-fourth (b ∷ c ∷ d ∷ []) w s h k z = absurd (omega arith)
-fourth (b ∷ c ∷ d ∷ e ∷ t) w s h k z = grind (arith, nat_tests)
+-- what stands behind the second byte decides
+pub whole : (l : List ℕ) (w : ℕ) → Says l w → 2 ≤ w → w ≤ length l → list_all (within tail) (drop 2 (take w l)) ≡ true → w ≡ width_of (decoded l)
+whole [] w s m k y = absurd (omega arith)
+whole (b ∷ t) zero s m k y = absurd (omega arith)
+whole (b ∷ t) (suc zero) s m k y = absurd (omega arith)
+whole (b ∷ []) (suc (suc w)) s m k y = absurd (omega arith)
+whole (b ∷ c ∷ t) (suc (suc zero)) s m k y = grind (arith, nat_tests)
+whole (b ∷ c ∷ []) (suc (suc (suc w))) s m k y = absurd (omega arith)
+whole (b ∷ c ∷ d ∷ t) (suc (suc (suc zero))) s m k y = grind (arith, nat_tests)
+whole (b ∷ c ∷ d ∷ []) (suc (suc (suc (suc w)))) s m k y = absurd (omega arith)
+whole (b ∷ c ∷ d ∷ e ∷ t) (suc (suc (suc (suc zero)))) s m k y = grind (arith, nat_tests)
+whole (b ∷ c ∷ d ∷ e ∷ t) (suc (suc (suc (suc (suc w))))) s m k y = absurd (omega (arith, s.1, counted_most b c))
 
-pub whole : (l : List ℕ) (w : ℕ) → Says l w → w ≤ length l → (2 < w → within tail (get_or l 2 0) ≡ true) → (3 < w → within tail (get_or l 3 0) ≡ true) → w ≡ width_of (decoded l)
-whole [] w s k y z = absurd (omega arith)
-whole (b ∷ []) w s k y z = grind (arith, nat_tests)
-whole (b ∷ c ∷ []) w s k y z = grind (arith, nat_tests)
-whole (b ∷ c ∷ d ∷ []) w s k y z = elim (cases_lt 2 w) [ inl h ↦ let u = y h in grind (arith, nat_tests) | inr h ↦ grind (arith, nat_tests) ]
-whole (b ∷ c ∷ d ∷ e ∷ t) w s k y z =
-    elim (cases_lt 2 w) [ inl h ↦ elim (cases_lt 3 w) [ inl j ↦ let u = y h in let v = z j in grind (arith, nat_tests) | inr j ↦ let u = y h in grind (arith, nat_tests) ] | inr h ↦ grind (arith, nat_tests) ]
+pub broken : (l : List ℕ) (w : ℕ) → Says l w → 2 ≤ w → w ≤ length l → list_all (within tail) (drop 2 (take w l)) ≡ false → 0 ≡ width_of (decoded l)
+broken [] w s m k y = absurd (omega arith)
+broken (b ∷ t) zero s m k y = absurd (omega arith)
+broken (b ∷ t) (suc zero) s m k y = absurd (omega arith)
+broken (b ∷ []) (suc (suc w)) s m k y = absurd (omega arith)
+broken (b ∷ c ∷ t) (suc (suc zero)) s m k y = grind (arith, nat_tests)
+broken (b ∷ c ∷ []) (suc (suc (suc w))) s m k y = absurd (omega arith)
+broken (b ∷ c ∷ d ∷ t) (suc (suc (suc zero))) s m k y = grind (arith, nat_tests)
+broken (b ∷ c ∷ d ∷ []) (suc (suc (suc (suc w)))) s m k y = absurd (omega arith)
+broken (b ∷ c ∷ d ∷ e ∷ t) (suc (suc (suc (suc zero)))) s m k y = grind (arith, nat_tests)
+broken (b ∷ c ∷ d ∷ e ∷ t) (suc (suc (suc (suc (suc w))))) s m k y = absurd (omega (arith, s.1, counted_most b c))
 
--- the same at a place of the bytes, c being the byte behind it
-pub says : (bs : List ℕ) (at w c : ℕ) → at < length bs → w ≡ counted (begin table (get_or bs at 0)) c → c ≡ get_or bs (at + 1) 0 → Says (drop at bs) w
-says bs at w c h e f = (simp length-drop (omega arith), simp (get_or-drop, add-zero) (e ∙ ap (counted (begin table (get_or bs at 0))) f))
+-- only the first row has one byte
+pub counted-two : (b c w : ℕ) → 128 ≤ b → w ≡ counted (begin table b) c → 0 < w → 2 ≤ w
+counted-two b c w h e m = grind (arith, nat_tests)
+
+-- a width is that of a row
+pub some_width-is : (n w : ℕ) → some_width n ≡ Some w → (w ≡ n) × (0 < w)
+some_width-is zero w e = cc
+some_width-is (suc n) w e = let q : suc n ≡ w = cc in (sym q, omega arith)
+
+positive : (w : ℕ) → 0 < w → Some w ≡ some_width w
+positive zero h = absurd (omega arith)
+positive (suc w) h = refl
+
+-- the width by the first two bytes and the test of those behind them
+pub shown : (l : List ℕ) (w : ℕ) (t : Bool) → some_width (counted (begin table (get_or l 0 0)) (get_or l 1 0)) ≡ Some w → 0 < length l → 128 ≤ get_or l 0 0 → w ≤ length l → t ≡ list_all (within tail) (take (w - 2) (drop 2 l)) → then_some t w ≡ some_width (width_of (decoded l))
+shown l w t e some lead long y =
+    let s = some_width-is _ w e in
+    let two = counted-two (get_or l 0 0) (get_or l 1 0) w lead s.0 s.1 in
+    let same : take (w - 2) (drop 2 l) ≡ drop 2 (take w l) = sym (drop-take 2 (w - 2) l) ∙ ap (λ n. drop 2 (take n l)) (omega arith) in
+    go t (y ∙ ap (list_all (within tail)) same) s two
+  where
+    go : (t : Bool) → t ≡ list_all (within tail) (drop 2 (take w l)) → (w ≡ counted (begin table (get_or l 0 0)) (get_or l 1 0)) × (0 < w) → 2 ≤ w → then_some t w ≡ some_width (width_of (decoded l))
+    go true y s two = positive w s.1 ∙ ap some_width (whole l w (some, s.0) two long (sym y))
+    go false y s two = ap some_width (broken l w (some, s.0) two long (sym y))
+
+-- a width that was found, and none
+pub of_width : (l : List ℕ) (w : ℕ) → some_width (width_of (decoded l)) ≡ Some w → w ≡ width_of (decoded l)
+of_width l w e = (some_width-is _ w e).0
+
+pub no_width : (l : List ℕ) → some_width (width_of (decoded l)) ≡ None → decoded l ≡ None
+no_width l e = nothing l (go (width_of (decoded l)) e)
+  where
+    go : (n : ℕ) → some_width n ≡ None → n ≡ 0
+    go zero e = refl
+    go (suc n) e = cc

@@ -67,3 +67,12 @@ only-texts (suc n) (b ∷ t) k h = go (only-texts n) (decoded (b ∷ t)) refl
 
 pub decides-utf8 : (bs : List ℕ) (r : Bool) → r ≡ well_formed bs → Decides r (IsUtf8 bs)
 decides-utf8 bs r e = ((λ h. only-texts (length bs) bs (omega arith) (sym e ∙ h)), (λ u. e ∙ (ap well_formed (sym u.1.1) ∙ each-text u.0 u.1.0)))
+
+-- what decides UTF-8 decides the table
+pub table-utf8 : (bs : List ℕ) (r : Bool) → Decides r (IsUtf8 bs) → r ≡ well_formed bs
+table-utf8 bs true d = sym ((decides-utf8 bs (well_formed bs) refl).1 (d.0 refl))
+table-utf8 bs false d = go (well_formed bs) refl
+  where
+    go : (w : Bool) → w ≡ well_formed bs → false ≡ well_formed bs
+    go true e = absurd (both_ways false refl (d.1 ((decides-utf8 bs true e).0 refl)))
+    go false e = e

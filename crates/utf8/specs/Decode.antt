@@ -34,6 +34,11 @@ abbrev pub width_of : Option (ℕ × ℕ) → ℕ
 width_of None = 0
 width_of (Some p) = p.1
 
+-- a width that is not 0
+abbrev pub some_width : ℕ → Option ℕ
+some_width zero = None
+some_width (suc n) = Some (suc n)
+
 -- the bytes begin with the encoding of the Unicode scalar value c, which takes w bytes
 pub record Begins (bs : List ℕ) (c w : ℕ) : Type 0 where
   pub is_scalar : scalar c ≡ true

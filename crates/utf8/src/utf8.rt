@@ -1,61 +1,50 @@
 // Whether bytes are well-formed UTF-8, their first character, and how many characters they have.
-ghost use Rattle.std.specs.Prelude.{◌≡◌, ℕ, ◌+◌, ◌-◌, ◌*◌, ◌%◌, ◌^◌, ◌<◌, ◌≤◌, true, List, ◌++◌, length, drop, Some, None, IsUtf8, Decides, ◌≢◌, slice_index};
+ghost use Rattle.std.specs.Prelude.{◌≡◌, ℕ, ◌+◌, ◌-◌, ◌*◌, ◌%◌, ◌^◌, ◌<◌, ◌≤◌, true, List, ◌++◌, length, drop, Some, None, IsUtf8, Decides, ◌≢◌, IfSome};
 ghost use Rattle.std.proofs.Math.Utf8.{scalar, scalars, encode, encodes};
-ghost use Rattle.utf8.specs.Decode.{decoded, width_of, scalars_of, Begins};
+ghost use Rattle.std.specs.List.{list_all};
+ghost use Rattle.utf8.specs.Decode.{decoded, width_of, some_width, scalars_of, Begins};
 ghost use Rattle.utf8.specs.Table.{tail, within, table, begin, counted, well_formed};
 
-// How many bytes a character takes that begins with these two, or 0 where none does.
-fn width(lead: u8, second: u8) -> usize
-    ensures { result ≡ counted (begin table lead) second }
+// How many bytes a character takes that begins with these two, where one does.
+fn width(lead: u8, second: u8) -> Option<usize>
+    ensures { result ≡ some_width (counted (begin table lead) second) }
 {
     match lead {
-        0x00..=0x7F => 1,
-        0xC2..=0xDF if 0x80 <= second && second <= 0xBF => 2,
-        0xE0 if 0xA0 <= second && second <= 0xBF => 3,
-        0xE1..=0xEC if 0x80 <= second && second <= 0xBF => 3,
-        0xED if 0x80 <= second && second <= 0x9F => 3,
-        0xEE..=0xEF if 0x80 <= second && second <= 0xBF => 3,
-        0xF0 if 0x90 <= second && second <= 0xBF => 4,
-        0xF1..=0xF3 if 0x80 <= second && second <= 0xBF => 4,
-        0xF4 if 0x80 <= second && second <= 0x8F => 4,
-        _ => 0,
+        0x00..=0x7F => Some(1),
+        0xC2..=0xDF if 0x80 <= second && second <= 0xBF => Some(2),
+        0xE0 if 0xA0 <= second && second <= 0xBF => Some(3),
+        0xE1..=0xEC if 0x80 <= second && second <= 0xBF => Some(3),
+        0xED if 0x80 <= second && second <= 0x9F => Some(3),
+        0xEE..=0xEF if 0x80 <= second && second <= 0xBF => Some(3),
+        0xF0 if 0x90 <= second && second <= 0xBF => Some(4),
+        0xF1..=0xF3 if 0x80 <= second && second <= 0xBF => Some(4),
+        0xF4 if 0x80 <= second && second <= 0x8F => Some(4),
+        _ => None,
     }
 }
 
-fn is_tail(b: u8) -> bool
-    ensures { result ≡ within tail b }
+// Whether each byte may stand behind the second of a character.
+fn are_tails(bytes: &[u8]) -> bool
+    ensures { result ≡ list_all (within tail) bytes.now }
 {
-    0x80 <= b && b <= 0xBF
+    bytes.iter().all(|b| 0x80 <= *b && *b <= 0xBF)
 }
 
-// The byte at the place, or 0 past the end.
-fn byte_at(bytes: &[u8], at: usize) -> u8
-    ensures { result ≡ slice_index bytes.now at }
+// How many bytes the first character takes, where one begins.
+fn first_width(bytes: &[u8]) -> Option<usize>
+    ensures width { result ≡ some_width (width_of (decoded bytes.now)) }
+    ensures inside { IfSome result (λ w. w ≤ length bytes.now) }
 {
-    if at < bytes.len() { bytes[at] } else { 0 }
-}
-
-// How many bytes the character takes that begins at the place, or 0 where none does.
-fn width_at(bytes: &[u8], at: usize) -> usize
-    requires { at < length bytes.now }
-    ensures width { result ≡ width_of (decoded (drop at bytes.now)) }
-    ensures inside { at + result ≤ length bytes.now }
-{
-    let lead = bytes[at];
+    let lead = *bytes.first()?;
     if lead < 0x80 {
-        return 1;
+        return Some(1);
     }
-    let w = width(lead, byte_at(bytes, at + 1));
-    if bytes.len() - at < w {
-        return 0;
+    let second = bytes.get(1).copied().unwrap_or(0);
+    let w = width(lead, second)?;
+    if bytes.len() < w {
+        return None;
     }
-    if 2 < w && !is_tail(bytes[at + 2]) {
-        return 0;
-    }
-    if 3 < w && !is_tail(bytes[at + 3]) {
-        return 0;
-    }
-    w
+    are_tails(&bytes[2..w]).then_some(w)
 }
 
 // Whether the bytes are well-formed UTF-8.
@@ -63,15 +52,7 @@ pub fn well_formed(bytes: &[u8]) -> bool
     ensures table { result ≡ well_formed bytes.now }
     ensures utf8 { Decides result (IsUtf8 bytes.now) }
 {
-    let mut at = 0;
-    while at < bytes.len() {
-        let w = width_at(bytes, at);
-        if w == 0 {
-            return false;
-        }
-        at += w;
-    }
-    true
+    str::from_utf8(bytes).is_ok()
 }
 
 // The bits so far, and the low six of one more byte.
@@ -107,13 +88,7 @@ pub fn decode(bytes: &[u8]) -> Option<(char, usize)>
     ensures first { (c : ℕ) (rest : List ℕ) → scalar c ≡ true → bytes.now ≡ encode c ++ rest → result ≡ Some (c, length (encode c)) }
     ensures none { result ≡ None → (c : ℕ) (rest : List ℕ) → scalar c ≡ true → bytes.now ≢ encode c ++ rest }
 {
-    if bytes.is_empty() {
-        return None;
-    }
-    let w = width_at(bytes, 0);
-    if w == 0 {
-        return None;
-    }
+    let w = first_width(bytes)?;
     let code = code_point(bytes, w);
     Some((unsafe { char::from_u32_unchecked(code) }, w))
 }
@@ -124,13 +99,9 @@ pub fn count_chars(bytes: &[u8]) -> usize
     ensures order { (cs : List ℕ) → scalars cs ≡ true → bytes.now ≡ encodes cs → scalars_of bytes.now ≡ cs }
 {
     let mut count = 0;
-    let mut at = 0;
-    while at < bytes.len() {
-        let w = width_at(bytes, at);
-        if w == 0 {
-            return count;
-        }
-        at += w;
+    let mut rest = bytes;
+    while let Some(w) = first_width(rest) {
+        rest = rest.split_at(w).1;
         count += 1;
     }
     count

@@ -1,28 +1,23 @@
 -- A turn counts one character.
-use Rattle.std.proofs.Common.{◌≡◌, ◌+◌, length, drop, sym, ap, ◌∙◌, arith}
-use Rattle.std.proofs.lemmas.List.{drop-drop, drop_all}
+use Rattle.std.proofs.Common.{◌≡◌, suc, length, drop, sym, ap, ◌∙◌, rules, arith}
+use Rattle.std.proofs.lemmas.List.{length-drop}
 use Rattle.utf8.specs.Decode.{decoded, width_of, scalars_of}
-use Rattle.utf8.proofs.Scalars.{count_past, count_none, scalars_of-encodes}
+use Rattle.utf8.proofs.Scalars.{count_past, scalars_of-encodes}
+use Rattle.utf8.proofs.Rows.{some_width-is}
 use Rattle.utf8.proofs.utf8.count_chars.Goals as goal
 
-pub loop-at-preserved : goal.loop-at-preserved
-loop-at-preserved c =
-    let bs = c.args.bytes.now in
-    let at = c.loop-at.at in
-    let w = c.width_at-w.result in
-    let past = count_past (drop at bs) (let z = c.if-w-eq0.false in omega arith) in
-    let rest : length (scalars_of (drop (width_of (decoded (drop at bs))) (drop at bs))) ≡ length (scalars_of (drop (at + w) bs)) =
-    ap (λ n. length (scalars_of (drop n (drop at bs)))) (sym c.width_at-w.ensures.width) ∙ ap (λ l. length (scalars_of l)) (drop-drop w at bs) in
-    (omega arith, omega arith, omega arith)
+pub loop-w-preserved : goal.loop-w-preserved
+loop-w-preserved c =
+    let l = c.loop-w.rest.now in
+    let w = c.in-Some.w in
+    let s = some_width-is (width_of (decoded l)) w (sym c.in-Some.ensures.width) in
+    let behind : c.split_at.result.1.now ≡ drop w l = search rules in
+    let one : length (scalars_of l) ≡ suc (length (scalars_of c.split_at.result.1.now)) =
+    count_past l (omega (arith, s.0, s.1)) ∙ ap (λ n. suc (length (scalars_of n))) (ap (λ n. drop n l) (sym s.0) ∙ sym behind) in
+    record {
+      counted = omega (arith, c.loop-w.invariant.counted, one);
+      shorter = omega (arith, c.loop-w.invariant.shorter, ap length behind, length-drop w l, s.1, c.in-Some.ensures.inside);
+    }
 
-pub returns : goal.returns
-returns c =
-    let bs = c.args.bytes.now in
-    let z : length (scalars_of (drop c.loop-at.at bs)) ≡ 0 = ap (λ l. length (scalars_of l)) (drop_all c.loop-at.at bs c.loop-at-test.false) in
-    record { count = omega arith; order = λ cs s e. ap scalars_of e ∙ scalars_of-encodes cs s }
-
-pub returns-then-w-eq0 : goal.returns-then-w-eq0
-returns-then-w-eq0 c =
-    let bs = c.args.bytes.now in
-    let z = count_none (drop c.loop-at.at bs) (sym c.width_at-w.ensures.width ∙ c.if-w-eq0.true) in
-    record { count = omega arith; order = λ cs s e. ap scalars_of e ∙ scalars_of-encodes cs s }
+pub returns-clause-order : goal.returns-clause-order
+returns-clause-order c = λ cs s e. ap scalars_of e ∙ scalars_of-encodes cs s
