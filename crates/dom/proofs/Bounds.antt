@@ -1,5 +1,5 @@
 -- How large the figures of a page can be.
-use Rattle.std.proofs.Common.{◌≡◌, ℕ, suc, ◌+◌, ◌*◌, ◌≤◌, max, Bool, true, false, cond, eqb, leb, List, [], ◌∷◌, ◌++◌, length, refl, ◌∙◌, subst, mul-le-mul_right, suc-mul, mul-le-mul_left, one-mul, mul-add, arith}
+use Rattle.std.proofs.Common.{◌≡◌, ℕ, suc, ◌+◌, ◌*◌, ◌≤◌, max, Bool, true, false, cond, leb, List, [], ◌∷◌, ◌++◌, length, refl, ◌∙◌, subst, mul-le-mul_right, suc-mul, mul-le-mul_left, one-mul, mul-add, arith}
 use Rattle.std.specs.Char.{len_utf8}
 use Rattle.std.proofs.lemmas.List.{length-append}
 use Rattle.std.proofs.lemmas.Str.{len_utf8_bounds}
@@ -7,11 +7,9 @@ use Rattle.utf8.specs.Decode.{scalars_of}
 use Rattle.page.specs.declared.kind.NodeKind.{NodeKind}
 use Rattle.page.specs.declared.kind.NodeKind.TheVariants.{Document, Doctype, Text, Comment, Element}
 use Rattle.page.specs.Kinds.{if_text}
-use Rattle.page.specs.Forest.{Forest, none, node, or_else, find, kids_of, size, levels, texts}
-use Rattle.page.specs.Kept.{Kept}
-use Rattle.page.proofs.Parent.{size-find}
-use Rattle.page.proofs.Walk.{texts-find}
-use Rattle.page.proofs.Levels.{size_below}
+use Rattle.page.specs.Forest.{Forest, none, node, find, kids_of, rest_of, size, levels, texts}
+use Rattle.page.specs.Kept.{Kept, KeptNode}
+use Rattle.page.proofs.Nodes.{kept_node}
 use Rattle.text.specs.declared.marks.State.TheVariants.{Plain, AfterStop, AfterComma}
 use Rattle.text.specs.Trim.{total, weight, trimmed_length, trimmed_bytes}
 use Rattle.text.specs.Marks.{bit}
@@ -148,25 +146,16 @@ bounded f r =
     let l : link_length f + text_length f ≤ 64 * text_length f = omega (arith, links-most f, mul-le-mul_right (text_length f) r.levels) in
     record { text = t; links = omega arith; chars = omega (arith, chars-most f, r.texts); marks = hits-most Plain (deep_chars f) }
 
--- the forest of a page, and what stands in it, is as small
-or_else-levels : (f g : Forest) → levels (or_else f g) ≤ max (levels f) (levels g)
-or_else-levels none g = omega arith
-or_else-levels (node m k c a kids rest) g = omega arith
+-- the forest of a node is as small, and so are its parts
+pub room_node : (f : Forest) → KeptNode f → Room f
+room_node f k = record { texts = k.short; levels = k.flat; size = k.few }
 
-levels-find : (t : Forest) (n : ℕ) → levels (find t n) ≤ levels t
-levels-find none n = omega arith
-levels-find (node i k c a kids rest) n = go (eqb i n) (levels-find kids n) (levels-find rest n)
-  where
-    go : (b : Bool) → levels (find kids n) ≤ levels kids → levels (find rest n) ≤ levels rest
-        → levels (cond b (node i k c a kids rest) (or_else (find kids n) (find rest n))) ≤ max (suc (levels kids)) (levels rest)
-    go true x y = omega arith
-    go false x y = omega (arith, or_else-levels (find kids n) (find rest n))
+pub room-found : (b : ℕ) (t : Forest) (n : ℕ) → Kept b t → Room (find t n)
+room-found b t n k = room_node (find t n) (kept_node b t n k)
 
-pub room-kept : (b : ℕ) (t : Forest) → Kept b t → Room t
-room-kept b t k = record { texts = k.short; levels = k.flat; size = omega (arith, size_below b t k.unique k.below, k.few) }
-
-pub room-find : (t : Forest) (n : ℕ) → Room t → Room (find t n)
-room-find t n r = record { texts = omega (arith, texts-find t n, r.texts); levels = omega (arith, levels-find t n, r.levels); size = omega (arith, size-find t n, r.size) }
+pub room-rest : (f : Forest) → Room f → Room (rest_of f)
+room-rest none r = r
+room-rest (node m k c a kids rest) r = record { texts = omega (arith, r.texts); levels = omega (arith, r.levels); size = omega (arith, r.size) }
 
 pub room-kids : (f : Forest) → Room f → Room (kids_of f)
 room-kids none r = r

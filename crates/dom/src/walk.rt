@@ -1,6 +1,6 @@
 // The figures of every node, in one walk.
-ghost use Rattle.std.specs.Prelude.{◌≡◌, ℕ, ◌^◌, ◌<◌, ◌≤◌, true, List, length, slice_set};
-ghost use Rattle.page.specs.Forest.{find, has, kids_of};
+ghost use Rattle.std.specs.Prelude.{◌≡◌, slice_set};
+ghost use Rattle.page.specs.Forest.{find, kids_of};
 ghost use Rattle.dom.specs.Under.{under_of, element_of, node_of};
 ghost use Rattle.names.specs.Tags.{tag_of};
 ghost use Rattle.dom.specs.Small.{Small, Bounded};
@@ -9,16 +9,17 @@ ghost use Rattle.dom.specs.Fill.{fill_all, Measured};
 use crate::scan::leaf_of;
 use crate::under::Under;
 use names::{Tag, tag_of};
-use page::{NodeKind, Page};
+use page::{Node, NodeKind, Page};
 
-// The figures of the node n with those of what is under it.
-fn with_node<P: Page>(p: &P, n: usize, inner: &Under) -> Under
-    requires there { has (P.tree p.now) n ≡ true }
-    requires element { Small (element_of (tag_of (find (P.tree p.now) n)) inner.now) }
-    requires small { Small (node_of (find (P.tree p.now) n) inner.now) }
-    ensures { result ≡ node_of (find (P.tree p.now) n) inner.now }
+// The figures of a node with those of what is under it.
+fn with_node<P: Page>(node: &Node<'_, P>, inner: &Under) -> Under
+    requires element { Small (element_of (tag_of node.now) inner.now) }
+    requires small { Small (node_of node.now inner.now) }
+    ensures { result ≡ node_of node.now inner.now }
 {
-    match p.kind_of(n) {
+    let p = node.page();
+    let n = node.number();
+    match node.kind() {
         NodeKind::Text => leaf_of(p, n).plus(&inner.in_element(Tag::Other)),
         _ => inner.in_element(tag_of(p, n)),
     }
@@ -33,20 +34,17 @@ fn put(table: &mut [Under], at: usize, under: Under)
     }
 }
 
-// The figures of what is under the node n; those of each node under it go into the table at its number. It calls itself
+// The figures of what is under a node; those of each node under it go into the table at its number. It calls itself
 // once a level, and a page has at most 64.
-fn fill<P: Page>(p: &P, n: usize, table: &mut [Under]) -> Under
-    requires { has (P.tree p.now) n ≡ true }
-    ensures value { result ≡ under_of (kids_of (find (P.tree p.now) n)) }
-    ensures after { table.new ≡ fill_all (kids_of (find (P.tree p.now) n)) table.old }
+fn fill<P: Page>(node: &Node<'_, P>, table: &mut [Under]) -> Under
+    ensures value { result ≡ under_of (kids_of node.now) }
+    ensures after { table.new ≡ fill_all (kids_of node.now) table.old }
 {
     let mut sum = Under::none();
-    let mut at = p.first_child_of(n);
-    while let Some(c) = at {
-        let inner = fill(p, c, table);
-        put(table, c, inner);
-        sum = sum.plus(&with_node(p, c, &inner));
-        at = p.next_sibling_of(c);
+    for child in node.children() {
+        let inner = fill(&child, table);
+        put(table, child.number(), inner);
+        sum = sum.plus(&with_node(&child, &inner));
     }
     sum
 }
@@ -56,10 +54,9 @@ pub fn under_of<P: Page>(p: &P, n: usize) -> Under
     ensures value { result ≡ under_of (kids_of (find (P.tree p.now) n)) }
     ensures bounds { Bounded result }
 {
-    if p.has(n) {
-        fill(p, n, &mut [])
-    } else {
-        Under::none()
+    match Node::find(p, n) {
+        Some(node) => fill(&node, &mut []),
+        None => Under::none(),
     }
 }
 
@@ -69,7 +66,7 @@ pub fn fill_under<P: Page>(p: &P, table: &mut [Under])
     ensures after { table.new ≡ fill_all (P.tree p.now) table.old }
     ensures measured { Measured (P.tree p.now) table.new }
 {
-    let root = p.root();
-    let all = fill(p, root, table);
-    put(table, root, all);
+    let root = Node::root(p);
+    let all = fill(&root, table);
+    put(table, root.number(), all);
 }

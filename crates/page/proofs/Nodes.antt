@@ -97,3 +97,8 @@ all_taken (node m k c a kids rest) h = cc
 pub levels-kids : (f : Forest) → levels (kids_of f) ≤ levels f
 levels-kids none = omega arith
 levels-kids (node m k c a kids rest) = omega arith
+
+-- what was found is the forest that was asked for
+pub tree-found : (f x : Forest) → Some x ≡ tree_or_none f → x ≡ f
+tree-found none x h = cc
+tree-found (node m k c a kids rest) x h = cc

@@ -1,93 +1,81 @@
 -- A turn takes one child, with all under it.
 use Rattle.std.proofs.Common.{◌≡◌, ◌<◌, set, sym, ap, ◌∙◌, subst, arith}
-use Rattle.page.specs.Forest.{find, head_of, size, kids_of, rest_of, from}
-use Rattle.page.proofs.Walk.{from-kids, from-rest, from_some, from-has, size-parts}
+use Rattle.page.specs.Forest.{size, kids_of, rest_of}
+use Rattle.page.proofs.Nodes.{taken, all_taken}
 use Rattle.names.specs.Tags.{tag_of}
 use Rattle.dom.specs.Under.{under_of, plus, element_of, node_of}
 use Rattle.dom.specs.Small.{Small}
 use Rattle.dom.specs.Fill.{fill_all}
 use Rattle.dom.proofs.Joins.{none-plus, plus_none, turn}
-use Rattle.dom.proofs.Bounds.{room-kept, room-find, room-kids, small, small-node, small-element, small-left}
+use Rattle.dom.proofs.Bounds.{Room, room_node, room-kids, room-rest, small, small-node, small-element, small-left}
 use Rattle.dom.proofs.Fills.{fill-parts}
 use Rattle.dom.proofs.walk.+fill.Goals as goal
 
-pub loop-at-init : goal.loop-at-init
-loop-at-init g t c =
-    let p = c.args.p.now in
-    let T = g.P.Page.tree p in
-    let at = c.first_child_of-at.result in
-    let e = from-kids T (g.P.Page.kept p).unique c.args.n at (c.first_child_of-at.ensures c.requires) in (
-      ap head_of e ∙ sym (c.first_child_of-at.ensures c.requires),
-      ap (λ u. plus u (under_of (from T at))) c.none-sum.ensures ∙ (none-plus (under_of (from T at)) ∙ ap under_of e),
-      ap (λ f. fill_all f c.args.table.now) e,
-      omega (arith, ap size e),
-    )
+pub loop-child-init : goal.loop-child-init
+loop-child-init g t c =
+    let f = kids_of c.args.node.now in
+    let e : c.into_iter-child-iterator.result ≡ f = c.into_iter-child-iterator.ensures.into_iter_gives ∙ c.children-child-items.ensures.children in
+    let whole : Room f = room-kids c.args.node.now (room_node c.args.node.now c.children-child-items.ensures.kept) in
+    record {
+      sum = (λ i. plus (c.none-sum.ensures i) (under_of (e i))) ∙ none-plus (under_of f);
+      table = ap (λ f. fill_all f c.args.table.now) e;
+      fewer = omega (arith, ap size e);
+      room = subst Room (sym e) whole;
+      whole = whole;
+    }
 
 pub fill-inner-requires : goal.fill-inner-requires
 fill-inner-requires g t c κs within =
-    let T = g.P.Page.tree c.args.p.now in
-    let s = from_some T c.loop-at.at c.in-Some.c c.loop-at.invariant.0 c.in-Some.is in
-    let less : size (kids_of (find T c.in-Some.c)) < t = omega (arith, c.decreases, ap size s.0, size-parts (find T c.in-Some.c) c.in-Some.c s.1, c.loop-at.invariant.3) in
-    (less, (within, from-has T c.loop-at.at c.in-Some.c c.loop-at.invariant.0 c.in-Some.is))
+    let s = taken c.loop-child.child-iterator c.in-Some.child c.next.new.self c.in-Some.ensures.steps in
+    let less : size (kids_of c.in-Some.child) < t = omega (arith, c.decreases, s.size, c.loop-child.invariant.fewer) in
+    (less, within)
 
 pub with_node-requires : goal.with_node-requires
 with_node-requires g t c =
-    let p = c.args.p.now in
-    let T = g.P.Page.tree p in
-    let f = find T c.in-Some.c in
-    let room = room-find T c.in-Some.c (room-kept (g.P.Page.limit p) T (g.P.Page.kept p)) in
+    let f = c.in-Some.child in
+    let s = taken c.loop-child.child-iterator f c.next.new.self c.in-Some.ensures.steps in
+    let room = subst Room s.is c.loop-child.invariant.room in
     record {
-      there = from-has T c.loop-at.at c.in-Some.c c.loop-at.invariant.0 c.in-Some.is;
       element = subst (λ u. Small (element_of (tag_of f) u)) (sym c.fill-inner.ensures.value) (small-element (tag_of f) (kids_of f) (room-kids f room));
       small = subst (λ u. Small (node_of f u)) (sym c.fill-inner.ensures.value) (small-node f room);
     }
 
 pub plus-sum-requires : goal.plus-sum-requires
 plus-sum-requires g t c =
-    let p = c.args.p.now in
-    let T = g.P.Page.tree p in
-    let f = find T c.in-Some.c in
-    let all = kids_of (find T c.args.n) in
-    let s = from_some T c.loop-at.at c.in-Some.c c.loop-at.invariant.0 c.in-Some.is in
-    let room = room-kids (find T c.args.n) (room-find T c.args.n (room-kept (g.P.Page.limit p) T (g.P.Page.kept p))) in
-    let whole : under_of all ≡ plus (plus c.loop-at.sum c.with_node.result) (under_of (rest_of f)) =
-    sym (turn c.loop-at.sum c.with_node.result c.fill-inner.result f c.in-Some.c s.1 c.fill-inner.ensures.value c.with_node.ensures
-    ∙ (ap (λ x. plus c.loop-at.sum (under_of x)) (sym s.0) ∙ c.loop-at.invariant.1)) in
-    small-left (plus c.loop-at.sum c.with_node.result) (under_of (rest_of f)) (subst Small whole (small all room))
+    let f = c.in-Some.child in
+    let s = taken c.loop-child.child-iterator f c.next.new.self c.in-Some.ensures.steps in
+    let all = kids_of c.args.node.now in
+    let whole : under_of all ≡ plus (plus c.loop-child.sum c.with_node.result) (under_of (rest_of f)) =
+    sym (turn c.loop-child.sum c.with_node.result c.fill-inner.result f c.number.result (sym c.number.ensures) c.fill-inner.ensures.value c.with_node.ensures
+    ∙ (ap (λ x. plus c.loop-child.sum (under_of x)) (sym s.is) ∙ c.loop-child.invariant.sum)) in
+    small-left (plus c.loop-child.sum c.with_node.result) (under_of (rest_of f)) (subst Small whole (small all c.loop-child.invariant.whole))
 
-pub loop-at-smaller : goal.loop-at-smaller
-loop-at-smaller g t c =
-    let p = c.args.p.now in
-    let T = g.P.Page.tree p in
-    let f = find T c.in-Some.c in
-    let s = from_some T c.loop-at.at c.in-Some.c c.loop-at.invariant.0 c.in-Some.is in
-    let e = from-rest T (g.P.Page.kept p).unique c.in-Some.c c.next_sibling_of-at.result (c.next_sibling_of-at.ensures (from-has T c.loop-at.at c.in-Some.c c.loop-at.invariant.0 c.in-Some.is)) in
-    omega (arith, ap size s.0, size-parts f c.in-Some.c s.1, ap size e)
-
-pub loop-at-preserved : goal.loop-at-preserved
-loop-at-preserved g t c =
-    let p = c.args.p.now in
-    let T = g.P.Page.tree p in
-    let n = c.in-Some.c in
-    let f = find T n in
-    let s = from_some T c.loop-at.at n c.loop-at.invariant.0 c.in-Some.is in
-    let there = from-has T c.loop-at.at n c.loop-at.invariant.0 c.in-Some.is in
-    let e = from-rest T (g.P.Page.kept p).unique n c.next_sibling_of-at.result (c.next_sibling_of-at.ensures there) in (
-      ap head_of e ∙ sym (c.next_sibling_of-at.ensures there),
-      ap (λ x. plus c.plus-sum.result (under_of x)) e
+pub loop-child-preserved : goal.loop-child-preserved
+loop-child-preserved g t c =
+    let f = c.in-Some.child in
+    let n = c.number.result in
+    let first = sym c.number.ensures in
+    let s = taken c.loop-child.child-iterator f c.next.new.self c.in-Some.ensures.steps in
+    let e = sym s.rest in
+    record {
+      sum =
+          ap (λ x. plus c.plus-sum.result (under_of x)) e
           ∙ (ap (λ u. plus u (under_of (rest_of f))) c.plus-sum.ensures
-          ∙ (turn c.loop-at.sum c.with_node.result c.fill-inner.result f n s.1 c.fill-inner.ensures.value c.with_node.ensures
-          ∙ (ap (λ x. plus c.loop-at.sum (under_of x)) (sym s.0) ∙ c.loop-at.invariant.1))),
-      ap (λ x. fill_all x c.put.new.table) e
+          ∙ (turn c.loop-child.sum c.with_node.result c.fill-inner.result f n first c.fill-inner.ensures.value c.with_node.ensures
+          ∙ (ap (λ x. plus c.loop-child.sum (under_of x)) (sym s.is) ∙ c.loop-child.invariant.sum)));
+      table =
+          ap (λ x. fill_all x c.put.new.table) e
           ∙ (ap (fill_all (rest_of f)) (c.put.ensures ∙ (λ i. set (c.fill-inner.ensures.after i) n (c.fill-inner.ensures.value i)))
-          ∙ (sym (fill-parts f n c.loop-at.table s.1) ∙ (ap (λ x. fill_all x c.loop-at.table) (sym s.0) ∙ c.loop-at.invariant.2))),
-      omega (arith, ap size s.0, size-parts f n s.1, ap size e, c.loop-at.invariant.3),
-    )
+          ∙ (sym (fill-parts f n c.loop-child.table first) ∙ (ap (λ x. fill_all x c.loop-child.table) (sym s.is) ∙ c.loop-child.invariant.table)));
+      fewer = omega (arith, s.size, c.loop-child.invariant.fewer);
+      room = subst Room s.rest (room-rest f (subst Room s.is c.loop-child.invariant.room));
+      whole = c.loop-child.invariant.whole;
+    }
 
 pub returns : goal.returns
 returns g t c =
-    let T = g.P.Page.tree c.args.p.now in
+    let e = all_taken c.loop-child.child-iterator c.in-None.ensures.steps.0 in
     record {
-      value = sym (plus_none c.loop-at.sum) ∙ (ap (λ r. plus c.loop-at.sum (under_of (from T r))) (sym c.in_default.is) ∙ c.loop-at.invariant.1);
-      after = ap (λ r. fill_all (from T r) c.loop-at.table) (sym c.in_default.is) ∙ c.loop-at.invariant.2;
+      value = sym (plus_none c.loop-child.sum) ∙ (ap (λ f. plus c.loop-child.sum (under_of f)) (sym e) ∙ c.loop-child.invariant.sum);
+      after = ap (λ f. fill_all f c.loop-child.table) (sym e) ∙ c.loop-child.invariant.table;
     }

@@ -1,18 +1,19 @@
 -- What is left of the children completes the sum and the table.
 use Rattle.std.proofs.Common.{◌≡◌, ◌≤◌}
-use Rattle.page.specs.Forest.{find, kids_of, head_of, size, from}
+use Rattle.page.specs.Forest.{kids_of, size}
 use Rattle.dom.specs.Under.{under_of, plus}
 use Rattle.dom.specs.Fill.{fill_all}
+use Rattle.dom.proofs.Bounds.{Room}
 use Rattle.dom.proofs.walk.+fill.Given as goal
 
 abbrev pub decreases-fill : goal.decreases-fill
-decreases-fill g l = size (kids_of (find (g.P.Page.tree l.p.now) l.n))
+decreases-fill g l = size (kids_of l.node.now)
 
-abbrev pub invariant-loop-at : goal.invariant-loop-at
-invariant-loop-at g l =
-    let t = g.P.Page.tree l.p in
-    let all = kids_of (find t l.n) in
-    (head_of (from t l.at) ≡ l.at) × (plus l.sum (under_of (from t l.at)) ≡ under_of all) × (fill_all (from t l.at) l.table ≡ fill_all all l.initial.table) × (size (from t l.at) ≤ size all)
-
-abbrev pub decreases-loop-at : goal.decreases-loop-at
-decreases-loop-at g l = size (from (g.P.Page.tree l.p) l.at)
+abbrev pub invariant-loop-child : goal.invariant-loop-child
+invariant-loop-child g l = record {
+  sum : plus l.sum (under_of l.child-iterator) ≡ under_of (kids_of l.node);
+  table : fill_all l.child-iterator l.table ≡ fill_all (kids_of l.node) l.initial.table;
+  fewer : size l.child-iterator ≤ size (kids_of l.node);
+  room : Room l.child-iterator;
+  whole : Room (kids_of l.node);
+}

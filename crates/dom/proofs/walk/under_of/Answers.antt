@@ -1,23 +1,15 @@
 -- What is under a node has its figures; what is under none has none.
 use Rattle.std.proofs.Common.{◌≡◌, sym, ap, ◌∙◌, subst}
 use Rattle.page.specs.Forest.{find, kids_of}
-use Rattle.page.proofs.Find.{find_absent}
+use Rattle.page.proofs.Nodes.{tree-found}
 use Rattle.dom.specs.Under.{under_of}
 use Rattle.dom.specs.Small.{Bounded}
-use Rattle.dom.proofs.Bounds.{room-kept, room-find, room-kids, bounded}
+use Rattle.dom.proofs.Bounds.{room-found, room-kids, bounded}
 use Rattle.dom.proofs.walk.under_of.Goals as goal
 
-pub returns-then-has : goal.returns-then-has
-returns-then-has g c =
+pub returns-in-Some : goal.returns-in-Some
+returns-in-Some g c =
     let p = c.args.p.now in
     let f = find (g.P.Page.tree p) c.args.n in
-    let room = room-find (g.P.Page.tree p) c.args.n (room-kept (g.P.Page.limit p) (g.P.Page.tree p) (g.P.Page.kept p)) in
-    record { value = c.fill.ensures.value; bounds = subst Bounded (sym c.fill.ensures.value) (bounded (kids_of f) (room-kids f room)) }
-
-pub returns-else-has : goal.returns-else-has
-returns-else-has g c =
-    let p = c.args.p.now in
-    let f = find (g.P.Page.tree p) c.args.n in
-    let room = room-find (g.P.Page.tree p) c.args.n (room-kept (g.P.Page.limit p) (g.P.Page.tree p) (g.P.Page.kept p)) in
-    let e : c.none.result ≡ under_of (kids_of f) = c.none.ensures ∙ ap (λ f. under_of (kids_of f)) (sym (find_absent (g.P.Page.tree p) c.args.n (sym c.if-has.ensures))) in
-    record { value = e; bounds = subst Bounded (sym e) (bounded (kids_of f) (room-kids f room)) }
+    let value : c.fill.result ≡ under_of (kids_of f) = c.fill.ensures.value ∙ ap (λ x. under_of (kids_of x)) (tree-found f c.in-Some.node c.in-Some.ensures) in
+    record { value = value; bounds = subst Bounded (sym value) (bounded (kids_of f) (room-kids f (room-found (g.P.Page.limit p) (g.P.Page.tree p) c.args.n (g.P.Page.kept p)))) }
