@@ -7,4 +7,4 @@ mod lines;
 mod text;
 
 pub use escape::push_escaped;
-pub use text::outline;
+pub use text::{outline, refusal_text};
