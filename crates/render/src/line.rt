@@ -1,11 +1,11 @@
 // The line of a node.
 ghost use Rattle.std.specs.Prelude.{◌≡◌, ◌*◌, ◌<◌, ◌≤◌, true, [], ◌++◌, length, replicate, is_some, OnOk, slice_index_or};
-ghost use Rattle.page.specs.Forest.{find, has as has_in, attrs_of, part_of};
+ghost use Rattle.page.specs.Forest.{attrs_of, part_of};
 ghost use Rattle.render.specs.Render.{quoted, word, attr_text, attrs_text};
 ghost use Rattle.render.specs.Found.{part_bytes, content_in, line_of};
 
 use crate::escape::push_escaped;
-use page::{NodeKind, Page, Part};
+use page::{Node, NodeKind, Page, Part};
 use std::alloc::AllocError;
 
 // Two spaces a depth.
@@ -30,10 +30,12 @@ fn kind_word(kind: NodeKind) -> &'static [u8]
 }
 
 // A part in quotes.
-fn push_quoted<P: Page>(p: &P, n: usize, part: Part, out: &mut Vec<u8>) -> Result<(), AllocError>
-    requires { is_some (part_of (find (P.tree p.now) n) part) ≡ true }
-    ensures { OnOk result (out.new.items ≡ out.old.items ++ quoted (part_bytes (find (P.tree p.now) n) part)) }
+fn push_quoted<P: Page>(node: &Node<'_, P>, part: Part, out: &mut Vec<u8>) -> Result<(), AllocError>
+    requires { is_some (part_of node.now part) ≡ true }
+    ensures { OnOk result (out.new.items ≡ out.old.items ++ quoted (part_bytes node.now part)) }
 {
+    let p = node.page();
+    let n = node.number();
     out.push(b'"')?;
     for i in 0..p.len_of(n, part) {
         push_escaped(out, p.byte_of(n, part, i))?;
@@ -43,55 +45,51 @@ fn push_quoted<P: Page>(p: &P, n: usize, part: Part, out: &mut Vec<u8>) -> Resul
 }
 
 // The content of all but the document: a space and the quoted bytes.
-fn push_content<P: Page>(p: &P, n: usize, out: &mut Vec<u8>) -> Result<(), AllocError>
-    requires { has_in (P.tree p.now) n ≡ true }
-    ensures { OnOk result (out.new.items ≡ out.old.items ++ content_in (find (P.tree p.now) n)) }
+fn push_content<P: Page>(node: &Node<'_, P>, out: &mut Vec<u8>) -> Result<(), AllocError>
+    ensures { OnOk result (out.new.items ≡ out.old.items ++ content_in node.now) }
 {
-    if let NodeKind::Document = p.kind_of(n) {
+    if let NodeKind::Document = node.kind() {
         return Ok(());
     }
     out.push(b' ')?;
-    push_quoted(p, n, Part::Content, out)?;
+    push_quoted(node, Part::Content, out)?;
     Ok(())
 }
 
 // An attribute: a space, the quoted name, an equals sign, the quoted value.
-fn push_attr<P: Page>(p: &P, n: usize, j: usize, out: &mut Vec<u8>) -> Result<(), AllocError>
-    requires { j < length (attrs_of (find (P.tree p.now) n)) }
-    ensures { OnOk result (out.new.items ≡ out.old.items ++ attr_text (slice_index_or (attrs_of (find (P.tree p.now) n)) j ([], []))) }
+fn push_attr<P: Page>(node: &Node<'_, P>, j: usize, out: &mut Vec<u8>) -> Result<(), AllocError>
+    requires { j < length (attrs_of node.now) }
+    ensures { OnOk result (out.new.items ≡ out.old.items ++ attr_text (slice_index_or (attrs_of node.now) j ([], []))) }
 {
     out.push(b' ')?;
-    push_quoted(p, n, Part::Name(j), out)?;
+    push_quoted(node, Part::Name(j), out)?;
     out.push(b'=')?;
-    push_quoted(p, n, Part::Value(j), out)?;
+    push_quoted(node, Part::Value(j), out)?;
     Ok(())
 }
 
-fn push_attrs<P: Page>(p: &P, n: usize, out: &mut Vec<u8>) -> Result<(), AllocError>
-    requires { has_in (P.tree p.now) n ≡ true }
-    ensures { OnOk result (out.new.items ≡ out.old.items ++ attrs_text (attrs_of (find (P.tree p.now) n))) }
+fn push_attrs<P: Page>(node: &Node<'_, P>, out: &mut Vec<u8>) -> Result<(), AllocError>
+    ensures { OnOk result (out.new.items ≡ out.old.items ++ attrs_text (attrs_of node.now)) }
 {
-    for j in 0..p.attrs_of(n) {
-        push_attr(p, n, j, out)?;
+    for j in 0..node.attrs() {
+        push_attr(node, j, out)?;
     }
     Ok(())
 }
 
 // The line of a node at a depth.
 pub(crate) fn push_line<P: Page>(
-    p: &P,
-    n: usize,
+    node: &Node<'_, P>,
     depth: usize,
     out: &mut Vec<u8>,
 ) -> Result<(), AllocError>
-    requires there { has_in (P.tree p.now) n ≡ true }
-    requires flat { depth ≤ 64 }
-    ensures { OnOk result (out.new.items ≡ out.old.items ++ line_of depth (find (P.tree p.now) n)) }
+    requires { depth ≤ 64 }
+    ensures { OnOk result (out.new.items ≡ out.old.items ++ line_of depth node.now) }
 {
     push_indent(out, depth)?;
-    out.extend_from_slice(kind_word(p.kind_of(n)))?;
-    push_content(p, n, out)?;
-    push_attrs(p, n, out)?;
+    out.extend_from_slice(kind_word(node.kind()))?;
+    push_content(node, out)?;
+    push_attrs(node, out)?;
     out.push(b'\n')?;
     Ok(())
 }

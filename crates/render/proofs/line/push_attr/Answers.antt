@@ -1,15 +1,15 @@
 use Rattle.std.proofs.Common.{◌≡◌, ℕ, List, [], ◌∷◌, ◌++◌, get_or, is_some, vec_items, ap, ◌∙◌, append_assoc}
-use Rattle.page.specs.Forest.{find, attrs_of}
+use Rattle.page.specs.Forest.{attrs_of}
 use Rattle.render.specs.Render.{quoted, attr_text}
 use Rattle.render.specs.Found.{bytes_in}
 use Rattle.render.proofs.Attributes.{attr-name, attr-value}
 use Rattle.render.proofs.line.push_attr.Goals as goal
 
 pub push_quoted-requires : goal.push_quoted-requires
-push_quoted-requires g c = ap is_some (attr-name (find (g.P.Page.tree c.args.p.now) c.args.n) c.args.j c.requires)
+push_quoted-requires g c = ap is_some (attr-name c.args.node.now c.args.j c.requires)
 
 pub push_quoted-requires-2 : goal.push_quoted-requires-2
-push_quoted-requires-2 g c = ap is_some (attr-value (find (g.P.Page.tree c.args.p.now) c.args.n) c.args.j c.requires)
+push_quoted-requires-2 g c = ap is_some (attr-value c.args.node.now c.args.j c.requires)
 
 -- the four pieces of an attribute
 pieces : (E n v : List ℕ) → (((E ++ (32 ∷ [])) ++ quoted n) ++ (61 ∷ [])) ++ quoted v ≡ E ++ attr_text (n, v)
@@ -19,7 +19,7 @@ pieces E n v =
 
 pub returns : goal.returns
 returns g c =
-    let f = find (g.P.Page.tree c.args.p.now) c.args.n in
+    let f = c.args.node.now in
     let j = c.args.j in
     let a = get_or (attrs_of f) j ([], []) in
     let E = vec_items c.args.out.now in

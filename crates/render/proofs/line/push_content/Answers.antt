@@ -1,9 +1,8 @@
-use Rattle.std.proofs.Common.{◌≡◌, ℕ, [], ◌∷◌, ◌++◌, Some, vec_items, sym, refl, ap, ◌∙◌, append_assoc, append-nil, arith}
+use Rattle.std.proofs.Common.{◌≡◌, ℕ, [], ◌∷◌, ◌++◌, true, is_some, Some, vec_items, sym, refl, ap, ◌∙◌, append_assoc, append-nil, arith}
 use Rattle.page.specs.declared.kind.NodeKind.{NodeKind}
 use Rattle.page.specs.declared.kind.NodeKind.TheVariants.{Document, Doctype, Text, Comment, Element}
 use Rattle.page.specs.declared.kind.Part.TheVariants.{Content}
-use Rattle.page.specs.Forest.{Forest, none, node, find, kind_of}
-use Rattle.page.proofs.Parts.{has-content}
+use Rattle.page.specs.Forest.{Forest, none, node, kind_of, part_of}
 use Rattle.render.specs.Render.{quoted, content_text}
 use Rattle.render.specs.Found.{content_in, part_bytes}
 use Rattle.render.proofs.line.push_content.Goals as goal
@@ -24,18 +23,22 @@ some-content (node m j c a kids rest) k e h = let z : j ≡ k = cc in go j (λ (
     go Comment h = refl
     go Element h = refl
 
+content-there : (f : Forest) (k : NodeKind) → Some k ≡ kind_of f → is_some (part_of f Content) ≡ true
+content-there none k e = absurd (let z : ◌≡◌ {A = ℕ} 0 1 = cc in omega arith)
+content-there (node m j c a kids rest) k e = refl
+
 pub push_quoted-requires : goal.push_quoted-requires
-push_quoted-requires g c = has-content (g.P.Page.tree c.args.p.now) c.args.n c.requires
+push_quoted-requires g c = content-there c.args.node.now c.kind.result c.kind.ensures.kind
 
 pub returns-in-Document : goal.returns-in-Document
 returns-in-Document g c =
-    let f = find (g.P.Page.tree c.args.p.now) c.args.n in
-    sym (ap (λ l. vec_items c.args.out.now ++ l) (no-content f (ap Some (sym c.in-Document.is) ∙ c.kind_of.ensures c.requires)) ∙ append-nil (vec_items c.args.out.now))
+    let f = c.args.node.now in
+    sym (ap (λ l. vec_items c.args.out.now ++ l) (no-content f (ap Some (sym c.in-Document.is) ∙ c.kind.ensures.kind)) ∙ append-nil (vec_items c.args.out.now))
 
 pub returns : goal.returns
 returns g c =
-    let f = find (g.P.Page.tree c.args.p.now) c.args.n in
+    let f = c.args.node.now in
     let E = vec_items c.args.out.now in
     c.in_ok-push_quoted.ensures
     ∙ (ap (λ l. l ++ quoted (part_bytes f Content)) c.in_ok-push.ensures.items
-    ∙ (append_assoc E (32 ∷ []) (quoted (part_bytes f Content)) ∙ ap (λ l. E ++ l) (sym (some-content f c.kind_of.result (c.kind_of.ensures c.requires) c.in_default.not-Document))))
+    ∙ (append_assoc E (32 ∷ []) (quoted (part_bytes f Content)) ∙ ap (λ l. E ++ l) (sym (some-content f c.kind.result c.kind.ensures.kind c.in_default.not-Document))))
