@@ -2,7 +2,7 @@
 ghost use Rattle.std.specs.Prelude.{◌≡◌};
 ghost use Rattle.text.specs.Marks.{mark_step, Counts};
 
-use crate::feed::Machine;
+use crate::machine::Machine;
 
 // Where the counter stands: in plain text, after a stop that may begin a match, or after such a comma.
 #[derive(Clone, Copy, PartialEq, Eq, Debug)]

@@ -1,14 +1,13 @@
 // Trimming: what is left of a text without the White_Space at its ends, measured as the text goes by.
-ghost use Rattle.std.specs.Prelude.{◌≡◌, Bool, true, not, is_some};
+ghost use Rattle.std.specs.Prelude.{◌≡◌, Bool, not};
 ghost use Rattle.utf8.specs.Decode.{scalars_of};
-ghost use Rattle.page.specs.Forest.{find, part_of};
-ghost use Rattle.text.specs.Held.{held};
 ghost use Rattle.text.specs.Trim.{weight, blank, trimmed_length, trimmed_bytes};
 ghost use Rattle.text.specs.Trimming.{added, trim_step, Trims};
 
-use crate::feed::{Machine, feed_of};
+use crate::machine::Machine;
+use crate::part::PartOf;
 use crate::space::is_space;
-use page::{Page, Part};
+use page::Page;
 
 // One figure of the trimmed text: its sum so far, and what the White_Space behind it will add if the text goes on.
 #[derive(Clone, Copy)]
@@ -94,13 +93,15 @@ impl Machine for Trim {
     }
 }
 
-// Trims a part that is there; away from one the answer is not determined.
-pub fn trim_of<P: Page>(p: &P, n: usize, part: Part) -> Trim
-    ensures chars { is_some (part_of (find (P.tree p.now) n) part) ≡ true → result.chars.sum ≡ trimmed_length (scalars_of (held (P.tree p.now) n part)) }
-    ensures bytes { is_some (part_of (find (P.tree p.now) n) part) ≡ true → result.bytes.sum ≡ trimmed_bytes (scalars_of (held (P.tree p.now) n part)) }
-    ensures blank { is_some (part_of (find (P.tree p.now) n) part) ≡ true → not result.chars.started ≡ blank (scalars_of (held (P.tree p.now) n part)) }
-{
-    let mut trim = Trim::new();
-    feed_of(p, n, part, &mut trim);
-    trim
+impl<'p, P: Page> PartOf<'p, P> {
+    // The part, trimmed.
+    pub fn trim(&self) -> Trim
+        ensures chars { result.chars.sum ≡ trimmed_length (scalars_of self.now) }
+        ensures bytes { result.bytes.sum ≡ trimmed_bytes (scalars_of self.now) }
+        ensures blank { not result.chars.started ≡ blank (scalars_of self.now) }
+    {
+        let mut trim = Trim::new();
+        self.feed(&mut trim);
+        trim
+    }
 }
