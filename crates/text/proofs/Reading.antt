@@ -61,7 +61,7 @@ first-bytes xs ys at n four is each = ap decoded same ∙ first-four (drop at xs
 
     same : take n ys ≡ take n (drop at xs)
     same = same_number_lists (take n ys) (take n (drop at xs)) (simp (length-take, length-drop) (omega arith)) (λ k h.
-      get_or-take n ys k 0 (omega (arith, long)) ∙ (each k (omega (arith, long)) (omega (arith, long)) ∙ (sym (get_or-drop at xs k 0) ∙ sym (get_or-take n (drop at xs) k 0 (omega (arith, long))))))
+        get_or-take n ys k 0 (omega (arith, long)) ∙ (each k (omega (arith, long)) (omega (arith, long)) ∙ (sym (get_or-drop at xs k 0) ∙ sym (get_or-take n (drop at xs) k 0 (omega (arith, long))))))
 
 -- where a decoded character ends
 pub ends : (xs : List ℕ) (at : ℕ) → at < length xs → length xs < 2 ^ 64 → IfSome (decoded (drop at xs)) (λ x. (0 < x.1) × (at + x.1 ≤ length xs) × (at + x.1 < 2 ^ 64))

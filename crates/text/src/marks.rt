@@ -59,8 +59,6 @@ impl Machine for Marks {
             (State::AfterComma, _) => (State::Plain, true),
         };
         self.state = state;
-        if matched {
-            self.count = self.count.saturating_add(1);
-        }
+        self.count = self.count.saturating_add(usize::from(matched));
     }
 }

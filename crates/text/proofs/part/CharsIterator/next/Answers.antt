@@ -1,5 +1,5 @@
 -- A step takes the first of what is left.
-use Rattle.std.proofs.Common.{sym, ap, ◌∙◌, arith, rules, length}
+use Rattle.std.proofs.Common.{sym, ap, ◌∙◌, rules, length}
 use Rattle.text.proofs.Reading.{reads}
 use Rattle.text.proofs.part.CharsIterator.next.Goals as goal
 

@@ -1,5 +1,5 @@
 -- The first byte decides below 0x80; else the next four do.
-use Rattle.std.proofs.Common.{◌≡◌, ◌+◌, ◌^◌, ◌<◌, ◌≤◌, length, IfSome, Some, sym, ap, ◌∙◌, subst, arith, rules}
+use Rattle.std.proofs.Common.{◌+◌, ◌^◌, ◌<◌, ◌≤◌, length, IfSome, Some, sym, ap, ◌∙◌, subst, arith, rules}
 use Rattle.std.proofs.lemmas.Option.{slice_get_within}
 use Rattle.text.proofs.Reading.{nothing-past, first-small, first-bytes, ends}
 use Rattle.text.proofs.part.PartOf.char_at.Goals as goal

@@ -1,5 +1,5 @@
 -- Each of the four calls answers the byte at its place.
-use Rattle.std.proofs.Common.{ℕ, zero, suc, rules, arith}
+use Rattle.std.proofs.Common.{zero, suc, rules, arith}
 use Rattle.text.proofs.part.PartOf.next_bytes.Goals as goal
 
 pub returns : goal.returns
