@@ -12,6 +12,7 @@ use std::marker::Model;
 use utf8::decode;
 
 // A part of a node, which may be there or not, with its length. A clause sees its bytes: none where it is not there.
+#[derive(Drop)]
 pub struct PartOf<'p, P: Page> {
     page: &'p P,
     node: usize,
