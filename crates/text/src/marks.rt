@@ -1,5 +1,5 @@
 // Punctuation, counted as the text goes by.
-ghost use Rattle.std.specs.Prelude.{◌≡◌};
+ghost use Rattle.std.specs.Prelude.{◌≡◌, ◌+◌, ◌-◌, ◌^◌, min};
 ghost use Rattle.text.specs.Marks.{mark_step, Counts};
 
 use crate::machine::Machine;
@@ -39,6 +39,17 @@ impl Marks {
         ensures { result ≡ self.now.count }
     {
         self.count
+    }
+
+    // The matches of this text and of the next, where the next was counted from where this one ended.
+    pub fn then(&self, next: &Marks) -> Marks
+        ensures state { result.state ≡ next.now.state }
+        ensures count { result.count ≡ min (self.now.count + next.now.count) (2 ^ 64 - 1) }
+    {
+        Marks {
+            state: next.state,
+            count: self.count.saturating_add(next.count),
+        }
     }
 }
 
