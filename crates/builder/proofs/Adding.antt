@@ -21,9 +21,10 @@ use Rattle.linked.specs.Links.{first_at, child_link, sibling_link}
 use Rattle.linked.specs.Records.{no_linked, records_of, links_ok}
 use Rattle.linked.proofs.Linked.{Linked, are-links, linked-at}
 use Rattle.linked.proofs.Depths.{Above, is-above}
+use Rattle.builder.specs.Put.{put}
 use Rattle.builder.specs.State.{State, used_nodes, used_table}
 use Rattle.builder.specs.Events.{row}
-use Rattle.builder.specs.After.{next_depth, put, with_child, with_next, enter, new_node, with_node, inside}
+use Rattle.builder.specs.After.{next_depth, with_child, with_next, enter, new_node, with_node, inside}
 use Rattle.builder.proofs.Snoc.{rows_fit, rows_last, behind, tabulate-snoc, last_reach, last-reach, fit-snoc}
 use Rattle.builder.proofs.Depths.{parent-same, child-same, sibling-kept, sibling-new, sibling-none}
 use Rattle.builder.proofs.Sound.{each_from, Deeper, Last, Sound, used-nodes, table-nodes, used-attrs, used-bytes, table-accepted, open_in}

@@ -46,6 +46,11 @@ module _ (s : State) (h : Sound s) (some : s.current ≡ 0 → ⊥) where
       ap (λ (x : LinkedNode). x.parent) (sym (get_or-take s.used.nodes s.nodes p no_linked h.inside))
       ∙ (linked-at (used_nodes s) t h.linked p (omega (arith, h.inside, used-nodes s h))).up
 
+  pub has-parent : (open_node s).parent ≡ None → ⊥
+  has-parent e =
+      let low = none_above t (depth_at t p) p (sym parent_is ∙ e) 0 (omega arith) in
+      omega (arith, root-depth t acc, later-depth t acc p (omega arith) (omega (arith, h.inside, table-nodes s h)))
+
   -- the parent stands above
   closed_at : (q : ℕ) → parent_link t p ≡ Some q → Sound (closed s)
   closed_at q e =
@@ -84,4 +89,4 @@ module _ (s : State) (h : Sound s) (some : s.current ≡ 0 → ⊥) where
     where
       go : (o : Option ℕ) → parent_link t p ≡ o → Sound (closed s)
       go (Some q) e = closed_at q e
-      go None e = absurd (let low = none_above t (depth_at t p) p e 0 (omega arith) in omega (arith, root-depth t acc, later-depth t acc p (omega arith) (omega (arith, h.inside, table-nodes s h))))
+      go None e = absurd (has-parent (parent_is ∙ e))

@@ -9,7 +9,7 @@ use Rattle.builder.specs.declared.refusal.BuildRefusal.{BuildRefusal}
 use Rattle.builder.specs.declared.refusal.BuildRefusal.TheVariants.{Misplaced, Full, TooDeep, IllFormed}
 use Rattle.builder.specs.State.{State, used_table}
 use Rattle.builder.specs.Events.{Event, element, attribute, text, comment, doctype, close}
-use Rattle.builder.specs.After.{next_depth, node_free, attr_free, bytes_free, narrow, of_node, first_no, answer, granted}
+use Rattle.builder.specs.After.{next_depth, node_free, attr_free, bytes_free, narrow, of_node, first_no, answer, with_node, granted}
 use Rattle.builder.specs.Sound.{sound}
 use Rattle.builder.proofs.Sound.{Last, Fresh, Sound, sound-is, is-sound}
 use Rattle.builder.proofs.Adding.{Granted, added-sound, opened-sound}
@@ -71,3 +71,6 @@ granted-sound s close h a = closed-sound s h (some-open s a)
 
 pub stays-sound : (s : State) (e : Event) → sound s ≡ true → answer s e ≡ None → sound (granted s e) ≡ true
 stays-sound s e h a = is-sound (granted s e) (granted-sound s e (sound-is s h) a)
+
+pub node-sound : (s : State) (k : NodeKind) (c : List ℕ) → is_document k ≡ false → sound s ≡ true → first_no (of_node s c) ≡ None → sound (with_node s k c) ≡ true
+node-sound s k c inner h a = is-sound (with_node s k c) (added-sound s k c (sound-is s h) (node-granted s k c inner a))

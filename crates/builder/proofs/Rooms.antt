@@ -1,5 +1,6 @@
 -- A sound state that answers yes has the room that adding asks for.
-use Rattle.std.proofs.Common.{◌≡◌, ℕ, ◌<◌, true, List, length, Some, None, Option, sym, refl, ap, ◌∙◌, arith, get_or-take}
+use Rattle.std.proofs.Common.{◌≡◌, ℕ, ◌<◌, true, not, cond, List, length, Some, None, Option, ◌⊎◌, sym, refl, ap, ◌∙◌, inl, inr, arith, get_or-take}
+use Rattle.std.proofs.lemmas.Bool.{cases_eq, eq-eqb, ne_eqb}
 use Rattle.page.specs.declared.kind.NodeKind.TheVariants.{Text}
 use Rattle.table.specs.Table.{Table}
 use Rattle.table.specs.Links.{depth_at}
@@ -8,12 +9,14 @@ use Rattle.linked.specs.declared.node.LinkedNode.{LinkedNode}
 use Rattle.linked.specs.Records.{no_linked}
 use Rattle.linked.proofs.Linked.{linked-at}
 use Rattle.linked.proofs.Depths.{above-is}
+use Rattle.builder.specs.declared.refusal.BuildRefusal.TheVariants.{Misplaced}
 use Rattle.builder.specs.State.{State, used_nodes, used_table}
-use Rattle.builder.specs.Events.{attribute}
+use Rattle.builder.specs.Events.{attribute, close}
 use Rattle.builder.specs.After.{open_node, of_node, first_no, answer}
 use Rattle.builder.specs.Room.{Below, NodeRoom, AttrRoom}
 use Rattle.builder.specs.Sound.{sound}
 use Rattle.builder.proofs.Sound.{Last, sound-is, used-nodes, table-nodes, used-attrs, table-accepted, open_in}
+use Rattle.builder.proofs.Closing.{has-parent}
 use Rattle.builder.proofs.Granting.{node-granted, attr-granted, attr-narrow}
 
 last-below : (t : Table) (n p : ℕ) (o : Option ℕ) → Last t n p o → Below o n
@@ -56,10 +59,29 @@ pub open-inside : (s : State) → sound s ≡ true → s.current < length s.node
 open-inside s ok = let h = sound-is s ok in omega (arith, h.inside, h.nodes)
 
 -- a parent stands before its child
-pub parent-before : (s : State) (q : ℕ) → sound s ≡ true → (open_node s).parent ≡ Some q → q < s.current
+parent-before : (s : State) (q : ℕ) → sound s ≡ true → (open_node s).parent ≡ Some q → q < s.current
 parent-before s q ok e =
     let h = sound-is s ok in
     let t = used_table s in
     let p = s.current in
     let up = (linked-at (used_nodes s) t h.linked p (omega (arith, h.inside, used-nodes s h))).up in
     (above-is t (depth_at t p) p q (sym up ∙ (ap (λ (x : LinkedNode). x.parent) (get_or-take s.used.nodes s.nodes p no_linked h.inside) ∙ e))).before
+
+-- the document alone has no parent
+no-parent : (s : State) → sound s ≡ true → ((q : ℕ) → (open_node s).parent ≡ Some q → ⊥) → s.current ≡ 0
+no-parent s ok none = go (cases_eq s.current 0)
+  where
+    go : (s.current ≡ 0) ⊎ (s.current ≡ 0 → ⊥) → s.current ≡ 0
+    go (inl z) = z
+    go (inr z) = absurd (has-parent s (sound-is s ok) z (nothing (open_node s).parent none))
+      where
+        nothing : (o : Option ℕ) → ((q : ℕ) → o ≡ Some q → ⊥) → o ≡ None
+        nothing None n = refl
+        nothing (Some q) n = absurd (n q refl)
+
+-- closing is refused to the document alone
+pub refused-close : (s : State) → sound s ≡ true → ((q : ℕ) → (open_node s).parent ≡ Some q → ⊥) → answer s close ≡ Some Misplaced
+refused-close s ok none = ap (λ v. cond (not v) None (Some Misplaced)) (eq-eqb s.current 0 (no-parent s ok none))
+
+pub granted-close : (s : State) (q : ℕ) → sound s ≡ true → (open_node s).parent ≡ Some q → answer s close ≡ None
+granted-close s q ok e = ap (λ v. cond (not v) None (Some Misplaced)) (ne_eqb s.current 0 (λ z. let l = parent-before s q ok e in omega arith))

@@ -1,5 +1,5 @@
 -- What an event answers, and what it leaves.
-use Rattle.std.specs.Prelude.{ℕ, ◌+◌, min, max, Bool, true, false, cond, not, ◌&&◌, List, [], ◌∷◌, ◌++◌, length, take, drop, Some, None, Option, ◌==◌, nat_le, nat_lt, slice_index_or, slice_set}
+use Rattle.std.specs.Prelude.{ℕ, ◌+◌, min, max, Bool, true, false, cond, not, ◌&&◌, List, [], ◌∷◌, ◌++◌, length, Some, None, Option, ◌==◌, nat_le, nat_lt, slice_index_or, slice_set}
 use Rattle.std.specs.Option.{unwrap_or}
 use Rattle.utf8.specs.Table.{well_formed}
 use Rattle.page.specs.declared.kind.NodeKind.{NodeKind}
@@ -11,6 +11,7 @@ use Rattle.linked.specs.declared.node.LinkedNode.{LinkedNode}
 use Rattle.linked.specs.Records.{no_linked}
 use Rattle.builder.specs.declared.refusal.BuildRefusal.{BuildRefusal}
 use Rattle.builder.specs.declared.refusal.BuildRefusal.TheVariants.{Misplaced, Full, TooDeep, IllFormed}
+use Rattle.builder.specs.Put.{put}
 use Rattle.builder.specs.State.{State}
 use Rattle.builder.specs.Events.{Event, element, attribute, text, comment, doctype, close}
 
@@ -58,10 +59,6 @@ first_no (q ∷ qs) = cond q.0 (first_no qs) (Some q.1)
 
 abbrev pub answer : State → Event → Option BuildRefusal
 answer s e = first_no (questions s e)
-
--- bytes with a content at an offset
-abbrev pub put : List ℕ → ℕ → List ℕ → List ℕ
-put bytes at c = take at bytes ++ (c ++ drop (at + length c) bytes)
 
 -- a record with a link to n
 abbrev pub with_child : LinkedNode → ℕ → LinkedNode

@@ -1,4 +1,5 @@
 pub mod Refusals
+pub mod Put
 pub mod State
 pub mod Events
 pub mod After

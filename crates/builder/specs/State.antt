@@ -4,7 +4,12 @@ use Rattle.table.specs.declared.record.AttrRecord.{AttrRecord}
 use Rattle.table.specs.Table.{Table}
 use Rattle.linked.specs.declared.node.LinkedNode.{LinkedNode}
 use Rattle.linked.specs.Records.{table_of}
-use Rattle.builder.specs.declared.used.Used.{Used}
+
+-- how many of the lent records and bytes are used
+pub record Used : Type 0 where
+  pub nodes : ℕ
+  pub attrs : ℕ
+  pub bytes : ℕ
 
 pub record State : Type 0 where
   pub nodes : List LinkedNode

@@ -3,5 +3,13 @@ use Rattle.builder.specs.declared.store.Store.{Store}
 use Rattle.builder.specs.State.{State}
 
 abbrev pub state_in : Store → State
-state_in s =
-    record { nodes = s.nodes.now; attrs = s.attrs.now; bytes = s.bytes.now; used = s.used; height = s.height; current = s.current; last = s.last; fresh = s.fresh }
+state_in s = record {
+  nodes = s.nodes.items.now;
+  attrs = s.attrs.items.now;
+  bytes = s.bytes.items.now;
+  used = record { nodes = s.nodes.used; attrs = s.attrs.used; bytes = s.bytes.used };
+  height = s.height;
+  current = s.current;
+  last = s.last;
+  fresh = s.fresh;
+}

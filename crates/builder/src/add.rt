@@ -3,7 +3,6 @@ ghost use Rattle.builder.specs.After.{with_node, with_attr};
 ghost use Rattle.builder.specs.Room.{NodeRoom, AttrRoom};
 ghost use Rattle.builder.specs.Stored.{state_in};
 
-use crate::put::put;
 use crate::store::Store;
 use linked::LinkedNode;
 use page::NodeKind;
@@ -15,31 +14,30 @@ impl<'a> Store<'a> {
         requires { NodeRoom (state_in self.old) content.now }
         ensures { state_in self.new ≡ with_node (state_in self.old) kind content.now }
     {
-        let at = self.used.bytes;
-        put(self.bytes, at, content);
-        let n = self.used.nodes;
+        let at = self.bytes.used;
+        self.bytes.extend_from_slice(content);
+        let n = self.nodes.used;
         let parent = self.current;
-        let depth = self.nodes[parent].node.depth + 1;
+        let depth = self.nodes.items[parent].node.depth + 1;
         match self.last {
-            None => self.nodes[parent].first_child = Some(n as u16),
-            Some(q) => self.nodes[q].next_sibling = Some(n as u16),
+            None => self.nodes.items[parent].first_child = Some(n as u16),
+            Some(q) => self.nodes.items[q].next_sibling = Some(n as u16),
         }
-        self.nodes[n] = LinkedNode {
+        // each length fits its field by the room that is asked, so the casts lose nothing and no conversion can fail
+        self.nodes.push(LinkedNode {
             node: NodeRecord {
                 kind: kind.code(),
                 depth,
                 attrs: 0,
-                first: self.used.attrs as u32,
+                first: self.attrs.used as u32,
                 start: at as u32,
                 len: content.len() as u32,
             },
             parent: Some(parent as u16),
             first_child: None,
             next_sibling: None,
-        };
-        self.used.nodes = n + 1;
-        self.used.bytes = at + content.len();
-        self.height = self.height.max(depth as usize);
+        });
+        self.height = self.height.max(usize::from(depth));
         self.last = Some(n);
         self.fresh = false;
     }
@@ -49,17 +47,15 @@ impl<'a> Store<'a> {
         requires { AttrRoom (state_in self.old) name.now value.now }
         ensures { state_in self.new ≡ with_attr (state_in self.old) name.now value.now }
     {
-        let at = self.used.bytes;
-        put(self.bytes, at, name);
-        put(self.bytes, at + name.len(), value);
-        self.nodes[self.current].node.attrs += 1;
-        self.attrs[self.used.attrs] = AttrRecord {
+        let at = self.bytes.used;
+        self.bytes.extend_from_slice(name);
+        self.bytes.extend_from_slice(value);
+        self.nodes.items[self.current].node.attrs += 1;
+        self.attrs.push(AttrRecord {
             name: name.len() as u16,
             value: value.len() as u16,
             start: at as u32,
-        };
-        self.used.attrs += 1;
-        self.used.bytes = at + (name.len() + value.len());
+        });
         self.fresh = true;
     }
 }

@@ -1,7 +1,7 @@
-ghost use Rattle.std.specs.Prelude.{◌≡◌, ℕ, ◌<◌, length};
+ghost use Rattle.std.specs.Prelude.{◌≡◌, ◌<◌, length};
 ghost use Rattle.builder.specs.Refusals.{refused};
 ghost use Rattle.builder.specs.Events.{attribute};
-ghost use Rattle.builder.specs.After.{bytes_free, of_node, first_no, answer};
+ghost use Rattle.builder.specs.After.{of_node, first_no, answer};
 ghost use Rattle.builder.specs.Stored.{state_in};
 
 use crate::refusal::BuildRefusal;
@@ -10,26 +10,17 @@ use table::Section;
 use utf8::well_formed;
 
 impl<'a> Store<'a> {
-    // Whether this many bytes are free.
-    fn bytes_free(&self, n: usize) -> bool
-        ensures { result ≡ bytes_free (state_in self.now) n }
-    {
-        let room = self.bytes.len().min(Section::Bytes.most());
-        self.used.bytes <= room && n <= room - self.used.bytes
-    }
-
     // The questions of an event that gives a node.
     pub(crate) fn ask_node(&self, content: &[u8]) -> Result<(), BuildRefusal>
-        requires { self.now.current < length self.now.nodes.now }
+        requires { self.now.current < length self.now.nodes.items.now }
         ensures { refused result ≡ first_no (of_node (state_in self.now) content.now) }
     {
-        if self.used.nodes >= self.nodes.len().min(Section::Nodes.most()) {
+        if !self.nodes.has_room(1, Section::Nodes.most())
+            || !self.bytes.has_room(content.len(), Section::Bytes.most())
+        {
             return Err(BuildRefusal::Full);
         }
-        if !self.bytes_free(content.len()) {
-            return Err(BuildRefusal::Full);
-        }
-        if self.nodes[self.current].node.depth >= 62 {
+        if self.nodes.items[self.current].node.depth >= 62 {
             return Err(BuildRefusal::TooDeep);
         }
         if !well_formed(content) {
@@ -45,22 +36,16 @@ impl<'a> Store<'a> {
         if !self.fresh {
             return Err(BuildRefusal::Misplaced);
         }
-        if name.len() >= 65_536 {
+        if name.len() >= 65_536
+            || value.len() >= 65_536
+            || !self.attrs.has_room(1, Section::Attributes.most())
+            || !self
+                .bytes
+                .has_room(name.len() + value.len(), Section::Bytes.most())
+        {
             return Err(BuildRefusal::Full);
         }
-        if value.len() >= 65_536 {
-            return Err(BuildRefusal::Full);
-        }
-        if self.used.attrs >= self.attrs.len().min(Section::Attributes.most()) {
-            return Err(BuildRefusal::Full);
-        }
-        if !self.bytes_free(name.len() + value.len()) {
-            return Err(BuildRefusal::Full);
-        }
-        if !well_formed(name) {
-            return Err(BuildRefusal::IllFormed);
-        }
-        if !well_formed(value) {
+        if !well_formed(name) || !well_formed(value) {
             return Err(BuildRefusal::IllFormed);
         }
         Ok(())

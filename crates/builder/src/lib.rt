@@ -5,12 +5,10 @@ mod add;
 mod ask;
 mod build;
 mod events;
+mod lent;
 mod make;
-mod put;
 mod refusal;
 mod store;
-mod used;
 
 pub use build::Builder;
 pub use refusal::BuildRefusal;
-pub use used::Used;

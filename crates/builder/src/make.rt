@@ -1,4 +1,4 @@
-ghost use Rattle.std.specs.Prelude.{◌≡◌, ℕ, ◌<◌, ◌≤◌, List, [], length, MatchResult, OnOk};
+ghost use Rattle.std.specs.Prelude.{◌≡◌, ℕ, ◌<◌, List, [], length, MatchResult, OnOk};
 ghost use Rattle.linked.specs.Opened.{linked_tree};
 ghost use Rattle.builder.specs.State.{used_nodes, used_attrs, used_bytes};
 ghost use Rattle.builder.specs.Events.{Event};
@@ -8,9 +8,9 @@ ghost use Rattle.builder.specs.Built.{state_of, built_tree};
 ghost use Rattle.builder.specs.Law.{begun, begin_answer, Law};
 
 use crate::build::Builder;
+use crate::lent::Lent;
 use crate::refusal::BuildRefusal;
 use crate::store::Store;
-use crate::used::Used;
 use linked::{LinkedNode, LinkedPage, LinkedRecords};
 use table::{AttrRecord, NodeRecord};
 
@@ -23,7 +23,8 @@ fn begin<'a>(
     requires { 0 < length nodes.old }
     ensures { state_in result ≡ begun nodes.old attrs.old bytes.old }
 {
-    nodes[0] = LinkedNode {
+    let mut nodes = Lent::new(nodes);
+    nodes.push(LinkedNode {
         node: NodeRecord {
             kind: 0,
             depth: 0,
@@ -35,16 +36,11 @@ fn begin<'a>(
         parent: None,
         first_child: None,
         next_sibling: None,
-    };
+    });
     Store {
         nodes,
-        attrs,
-        bytes,
-        used: Used {
-            nodes: 1,
-            attrs: 0,
-            bytes: 0,
-        },
+        attrs: Lent::new(attrs),
+        bytes: Lent::new(bytes),
         height: 0,
         current: 0,
         last: None,
@@ -73,7 +69,7 @@ impl<'a> Builder<'a> {
         ensures state { MatchResult result (λ _. state_of self.new ≡ begun nodes.old attrs.old bytes.old) (λ _. self.new ≡ self.old) }
         ensures law { OnOk result ((es : List Event) → Law (state_of self.new) es) }
     {
-        if nodes.len() == 0 {
+        if nodes.is_empty() {
             return Err(BuildRefusal::Full);
         }
         *self = Builder {
@@ -89,26 +85,12 @@ impl<'a> Builder<'a> {
         ensures bytes { result.records.bytes.now ≡ used_bytes (state_of self.now) }
         ensures tree { linked_tree result ≡ built_tree (state_of self.now) }
     {
-        let records = self.store.records();
+        let records = LinkedRecords {
+            nodes: self.store.nodes.used_items(),
+            attrs: self.store.attrs.used_items(),
+            bytes: self.store.bytes.used_items(),
+        };
         let height = self.store.height;
         LinkedPage { records, height }
-    }
-}
-
-impl<'a> Store<'a> {
-    // The records and the bytes that are used.
-    fn records(&self) -> LinkedRecords<'_>
-        requires nodes { self.now.used.nodes ≤ length self.now.nodes.now }
-        requires attrs { self.now.used.attrs ≤ length self.now.attrs.now }
-        requires bytes { self.now.used.bytes ≤ length self.now.bytes.now }
-        ensures nodes { result.nodes.now ≡ used_nodes (state_in self.now) }
-        ensures attrs { result.attrs.now ≡ used_attrs (state_in self.now) }
-        ensures bytes { result.bytes.now ≡ used_bytes (state_in self.now) }
-    {
-        LinkedRecords {
-            nodes: &self.nodes[0..self.used.nodes],
-            attrs: &self.attrs[0..self.used.attrs],
-            bytes: &self.bytes[0..self.used.bytes],
-        }
     }
 }

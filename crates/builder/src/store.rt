@@ -1,19 +1,18 @@
-use crate::used::Used;
+use crate::lent::Lent;
 use linked::LinkedNode;
 use table::AttrRecord;
 
-// Lent records and bytes, how many are used, and where the builder stands.
+// The caller lends records and bytes, since nothing is allocated while a page is built; and where the builder stands.
 #[derive(Drop)]
 pub(crate) struct Store<'a> {
-    pub(crate) nodes: &'a mut [LinkedNode],
-    pub(crate) attrs: &'a mut [AttrRecord],
-    pub(crate) bytes: &'a mut [u8],
-    pub(crate) used: Used,
+    pub(crate) nodes: Lent<'a, LinkedNode>,
+    pub(crate) attrs: Lent<'a, AttrRecord>,
+    pub(crate) bytes: Lent<'a, u8>,
     // how deep the deepest node stands
     pub(crate) height: usize,
     // the innermost open node and its last child
     pub(crate) current: usize,
     pub(crate) last: Option<usize>,
-    // whether the event just granted was an element or an attribute
+    // Whether the event just granted was an element or an attribute. Apart from `last`, since each event reads one of the two.
     pub(crate) fresh: bool,
 }

@@ -1,5 +1,5 @@
 -- Appending piece by piece.
-use Rattle.std.proofs.Common.{◌≡◌, ℕ, zero, suc, ◌+◌, ◌<◌, ◌≤◌, List, [], ◌∷◌, ◌++◌, length, get_or, drop, replicate, Some, None, Option, sym, refl, ap, ◌∙◌, append_assoc, append-nil, add-one, arith}
+use Rattle.std.proofs.Common.{◌≡◌, ℕ, zero, suc, ◌+◌, ◌<◌, ◌≤◌, List, [], ◌∷◌, ◌++◌, length, get_or, drop, Some, None, Option, sym, ap, ◌∙◌, append_assoc, append-nil, arith}
 use Rattle.std.specs.List.{slice_get}
 use Rattle.std.proofs.lemmas.List.{drop_more, drop_all}
 use Rattle.page.specs.Forest.{length_in, byte_in}
@@ -30,11 +30,3 @@ module _ {X : Type 0} (write : List X → List ℕ) (piece : X → List ℕ) (co
 
   pub pieces-all : (E O : List ℕ) (xs : List X) (i : ℕ) → length xs ≤ i → O ++ write (drop i xs) ≡ E ++ write xs → O ≡ E ++ write xs
   pieces-all E O xs i l h = sym (append-nil O) ∙ (ap (λ r. O ++ r) (sym (ap write (drop_all i xs l) ∙ start)) ∙ h)
-
--- one more of the same
-pub again : (n b : ℕ) → replicate n b ++ (b ∷ []) ≡ replicate (n + 1) b
-again n b = go n ∙ ap (λ k. replicate k b) (sym (add-one n))
-  where
-    go : (k : ℕ) → replicate k b ++ (b ∷ []) ≡ replicate (suc k) b
-    go zero = refl
-    go (suc k) = ap (λ l. b ∷ l) (go k)

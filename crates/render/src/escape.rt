@@ -5,7 +5,7 @@ ghost use Rattle.render.specs.Render.{escape};
 
 use std::alloc::AllocError;
 
-// The lower-case hexadecimal digit of a number below 16.
+// The lower-case hexadecimal digit of a number below 16: `char::from_digit` would give a `char` or none.
 fn hex_digit(d: u8) -> u8
     requires { d < 16 }
     ensures { result ≡ digit_char d }
@@ -17,11 +17,11 @@ fn hex_digit(d: u8) -> u8
 pub fn push_escaped(out: &mut Vec<u8>, b: u8) -> Result<(), AllocError>
     ensures { out.new.items ≡ (if is_ok result then out.old.items ++ escape b else out.old.items) }
 {
-    if b == b'"' || b == b'\\' {
-        return out.extend_from_slice(&[b'\\', b]);
+    match b {
+        b'"' | b'\\' => out.extend_from_slice(&[b'\\', b]),
+        _ if b.is_ascii_control() => {
+            out.extend_from_slice(&[b'\\', b'x', hex_digit(b / 16), hex_digit(b % 16)])
+        }
+        _ => out.extend_from_slice(&[b]),
     }
-    if b < 32 || b == 127 {
-        return out.extend_from_slice(&[b'\\', b'x', hex_digit(b / 16), hex_digit(b % 16)]);
-    }
-    out.extend_from_slice(&[b])
 }

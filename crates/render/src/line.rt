@@ -13,12 +13,10 @@ fn push_indent(out: &mut Vec<u8>, depth: usize) -> Result<(), AllocError>
     requires { depth ≤ 64 }
     ensures { OnOk result (out.new.items ≡ out.old.items ++ replicate (2 * depth) 32) }
 {
-    for _ in 0..depth * 2 {
-        out.push(b' ')?;
-    }
-    Ok(())
+    out.resize(out.len() + depth * 2, b' ')
 }
 
+// The word of a kind. The enum is of another crate, which has no words, so it is no `Display`.
 fn kind_word(kind: NodeKind) -> &'static [u8]
     ensures { result.now ≡ word kind }
 {

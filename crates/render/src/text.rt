@@ -8,39 +8,33 @@ ghost use Rattle.render.specs.Render.{header, render};
 ghost use Rattle.render.specs.Outline.{refusal_text, outline_of};
 
 use crate::lines::push_lines;
-use pagefile::OpenedPage;
+use pagefile::{Counts, OpenedPage};
 use std::alloc::{AllocError, Global};
 use table::Check;
 
-// The line of a refusal.
-fn refusal_text(heap: Global, check: Check) -> Result<Vec<u8>, AllocError>
+// The line of a refusal. It fails only for want of memory.
+pub fn refusal_text(heap: Global, check: Check) -> Result<Vec<u8>, AllocError>
     ensures { IfOk result (λ v. v.items ≡ refusal_text check) }
 {
-    let number = check.number();
-    let record = check.record();
-    let text = format!(in heap; "refused {number} {record}\n")?;
-    text.as_bytes().to_vec(heap)
+    Ok(format!(in heap; "refused {} {}\n", check.number(), check.record())?.into_bytes())
 }
 
 // The header of a page with these counts.
-fn header_text(
-    heap: Global,
-    nodes: usize,
-    attrs: usize,
-    bytes: usize,
-) -> Result<Vec<u8>, AllocError>
-    ensures { IfOk result (λ v. v.items ≡ header nodes attrs bytes) }
+fn header_text(heap: Global, counts: Counts) -> Result<Vec<u8>, AllocError>
+    ensures { IfOk result (λ v. v.items ≡ header counts.nodes counts.attrs counts.bytes) }
 {
-    let text = format!(in heap; "# {nodes} nodes, {attrs} attributes, {bytes} bytes\n")?;
-    text.as_bytes().to_vec(heap)
+    Ok(format!(in heap;
+        "# {} nodes, {} attributes, {} bytes\n",
+        counts.nodes, counts.attrs, counts.bytes
+    )?
+    .into_bytes())
 }
 
 // The text of an opened page.
 fn page_text(heap: Global, page: &OpenedPage) -> Result<Vec<u8>, AllocError>
     ensures { IfOk result (λ v. v.items ≡ render (opened_tree page.now)) }
 {
-    let counts = page.counts();
-    let mut out = header_text(heap, counts.nodes, counts.attrs, counts.bytes)?;
+    let mut out = header_text(heap, page.counts())?;
     push_lines(page, &mut out)?;
     Ok(out)
 }

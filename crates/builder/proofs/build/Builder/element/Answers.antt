@@ -1,20 +1,18 @@
-use Rattle.std.proofs.Common.{◌≡◌, true, sym, subst}
+use Rattle.std.proofs.Common.{◌≡◌, true, sym, ap, ◌∙◌, subst}
+use Rattle.page.specs.declared.kind.NodeKind.TheVariants.{Element}
 use Rattle.builder.specs.State.{State}
 use Rattle.builder.specs.Events.{element}
-use Rattle.builder.specs.After.{inside}
+use Rattle.builder.specs.After.{with_node, inside, unless}
 use Rattle.builder.specs.Stored.{state_in}
 use Rattle.builder.specs.Sound.{sound}
 use Rattle.builder.proofs.Granting.{stays-sound}
-use Rattle.builder.proofs.Rooms.{node-room}
 use Rattle.builder.proofs.build.Builder.element.Goals as goal
-
-pub add_node-requires : goal.add_node-requires
-add_node-requires c =
-    let b = c.args.self.now in
-    node-room (state_in b.store) c.args.name.now b.sound (sym c.in_ok-ask_node.ensures)
 
 pub invariant_of-self : goal.invariant_of-self
 invariant_of-self c =
     let b = c.args.self.now in
-    let n = b.store.used.nodes in
-    record { sound = subst (λ (s : State). sound (inside s n) ≡ true) (sym c.add_node.ensures) (stays-sound (state_in b.store) (element c.args.name.now) b.sound (sym c.in_ok-ask_node.ensures)) }
+    let s = state_in b.store in
+    let name = c.args.name.now in
+    let granted = sym c.in_ok-node.ensures.answer in
+    let after = c.in_ok-node.ensures.after ∙ ap (λ o. unless o s (with_node s Element name)) granted in
+    record { sound = subst (λ (t : State). sound (inside t s.used.nodes) ≡ true) (sym after) (stays-sound s (element name) b.sound granted) }
