@@ -15,7 +15,7 @@ use Rattle.names.specs.declared.tag.Tag.{Tag}
 use Rattle.names.specs.declared.tag.Tag.TheVariants.{Anchor, P, Img, Li, Input, Embed, Other}
 use Rattle.names.specs.Tags.{named, classed, tag_of}
 use Rattle.names.specs.Is.{is, among}
-use Rattle.dom.specs.declared.pass.Pass.{Pass}
+use Rattle.text.specs.declared.marks.Marks.{Marks}
 use Rattle.dom.specs.declared.pass.Passes.{Passes}
 use Rattle.dom.specs.declared.under.Under.{Under}
 use Rattle.dom.specs.Passes.{pass_of, passes_of, pick, joined, both}
@@ -36,17 +36,17 @@ pick-of Plain cs = refl
 pick-of AfterStop cs = refl
 pick-of AfterComma cs = refl
 
-pub same-pass : (p q : Pass) → p.end ≡ q.end → p.count ≡ q.count → p ≡ q
-same-pass p q e f = λ i. record { end = e i; count = f i }
+pub same-pass : (p q : Marks) → p.state ≡ q.state → p.count ≡ q.count → p ≡ q
+same-pass p q e f = λ i. record { state = e i; count = f i }
 
 pub same-passes : (p q : Passes) → p.plain ≡ q.plain → p.stop ≡ q.stop → p.comma ≡ q.comma → p ≡ q
 same-passes p q e f g = λ i. record { plain = e i; stop = f i; comma = g i }
 
 joined_of : (s : State) (xs ys : List ℕ) → joined (passes_of xs) (passes_of ys) s ≡ pass_of s (xs ++ ys)
 joined_of s xs ys =
-    let a : joined (passes_of xs) (passes_of ys) s ≡ record { end = after (after s xs) ys; count = hits s xs + hits (after s xs) ys } =
-    (λ i. record { end = (pick (passes_of ys) (pick-of s xs i).end).end; count = (pick-of s xs i).count + (pick (passes_of ys) (pick-of s xs i).end).count })
-    ∙ (λ i. record { end = (pick-of (after s xs) ys i).end; count = hits s xs + (pick-of (after s xs) ys i).count }) in
+    let a : joined (passes_of xs) (passes_of ys) s ≡ record { state = after (after s xs) ys; count = hits s xs + hits (after s xs) ys } =
+    (λ i. record { state = (pick (passes_of ys) (pick-of s xs i).state).state; count = (pick-of s xs i).count + (pick (passes_of ys) (pick-of s xs i).state).count })
+    ∙ (λ i. record { state = (pick-of (after s xs) ys i).state; count = hits s xs + (pick-of (after s xs) ys i).count }) in
     a ∙ same-pass _ _ (sym (after-append s xs ys)) (sym (hits-append s xs ys))
 
 pub both_of : (xs ys : List ℕ) → both (passes_of xs) (passes_of ys) ≡ passes_of (xs ++ ys)
@@ -61,19 +61,19 @@ pick-both p q AfterComma = refl
 joined-assoc : (p q r : Passes) (s : State) → joined (both p q) r s ≡ joined p (both q r) s
 joined-assoc p q r s =
     let e = pick-both p q s in
-    let f = pick-both q r (pick p s).end in
-    same-pass _ _ (ap (λ x. (pick r x.end).end) e ∙ sym (ap (λ x. x.end) f)) (omega (arith, ap (λ x. x.count) e, ap (λ x. (pick r x.end).count) e, ap (λ x. x.count) f))
+    let f = pick-both q r (pick p s).state in
+    same-pass _ _ (ap (λ x. (pick r x.state).state) e ∙ sym (ap (λ x. x.state) f)) (omega (arith, ap (λ x. x.count) e, ap (λ x. (pick r x.state).count) e, ap (λ x. x.count) f))
 
 both-assoc : (p q r : Passes) → both (both p q) r ≡ both p (both q r)
 both-assoc p q r = same-passes _ _ (joined-assoc p q r Plain) (joined-assoc p q r AfterStop) (joined-assoc p q r AfterComma)
 
-pick-none : (s : State) → ((pick (passes_of []) s).end ≡ s) × ((pick (passes_of []) s).count ≡ 0)
+pick-none : (s : State) → ((pick (passes_of []) s).state ≡ s) × ((pick (passes_of []) s).count ≡ 0)
 pick-none Plain = (refl, refl)
 pick-none AfterStop = (refl, refl)
 pick-none AfterComma = (refl, refl)
 
 joined-none : (p : Passes) (s : State) → joined p (passes_of []) s ≡ pick p s
-joined-none p s = let e = pick-none (pick p s).end in same-pass _ _ e.0 (omega (arith, e.1))
+joined-none p s = let e = pick-none (pick p s).state in same-pass _ _ e.0 (omega (arith, e.1))
 
 both-none : (p : Passes) → both p (passes_of []) ≡ p
 both-none p = same-passes _ _ (joined-none p Plain) (joined-none p AfterStop) (joined-none p AfterComma)

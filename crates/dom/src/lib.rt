@@ -6,6 +6,6 @@ mod scan;
 mod under;
 mod walk;
 
-pub use pass::{Pass, Passes};
+pub use pass::Passes;
 pub use under::{BLOCK_CHILD_TAGS, Under};
 pub use walk::{fill_under, under_of};

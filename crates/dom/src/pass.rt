@@ -1,23 +1,16 @@
 // The punctuation of a text from each state of the counter, so that texts that follow one another are counted once.
 ghost use Rattle.std.specs.Prelude.{◌≡◌, ◌+◌, ◌^◌, ◌<◌, []};
-ghost use Rattle.dom.specs.Passes.{pick, joined, both, passes_of};
+ghost use Rattle.dom.specs.Passes.{pick, joined, both, passes_of, passes_step};
 ghost use Rattle.text.specs.declared.marks.State.TheVariants.{Plain, AfterStop, AfterComma};
 
-use text::State;
+use text::{Machine, Marks, State};
 
-// Where the counter stands behind a text, and the matches that it counted there.
-#[derive(Clone, Copy)]
-pub struct Pass {
-    pub end: State,
-    pub count: usize,
-}
-
-// A text passed from each state.
+// A text counted from each state: where the counter stands behind it, and the matches that it counted there.
 #[derive(Clone, Copy)]
 pub struct Passes {
-    pub plain: Pass,
-    pub stop: Pass,
-    pub comma: Pass,
+    pub plain: Marks,
+    pub stop: Marks,
+    pub comma: Marks,
 }
 
 impl Passes {
@@ -26,23 +19,14 @@ impl Passes {
         ensures { result ≡ passes_of [] }
     {
         Passes {
-            plain: Pass {
-                end: State::Plain,
-                count: 0,
-            },
-            stop: Pass {
-                end: State::AfterStop,
-                count: 0,
-            },
-            comma: Pass {
-                end: State::AfterComma,
-                count: 0,
-            },
+            plain: Marks::new(State::Plain),
+            stop: Marks::new(State::AfterStop),
+            comma: Marks::new(State::AfterComma),
         }
     }
 
-    // The pass from a state.
-    pub fn from(&self, state: State) -> Pass
+    // The count from a state.
+    pub fn from(&self, state: State) -> Marks
         ensures { result ≡ pick self.now state }
     {
         match state {
@@ -52,17 +36,13 @@ impl Passes {
         }
     }
 
-    // The pass from a state through this text and then the next.
-    fn on(&self, state: State, next: &Passes) -> Pass
+    // The count from a state through this text and then the next.
+    fn on(&self, state: State, next: &Passes) -> Marks
         requires { (joined self.now next.now state).count < 2 ^ 64 }
         ensures { result ≡ joined self.now next.now state }
     {
         let first = self.from(state);
-        let second = next.from(first.end);
-        Pass {
-            end: second.end,
-            count: first.count + second.count,
-        }
+        first.then(&next.from(first.state()))
     }
 
     // This text and then the next.
@@ -77,5 +57,15 @@ impl Passes {
             stop: self.on(State::AfterStop, next),
             comma: self.on(State::AfterComma, next),
         }
+    }
+}
+
+impl Machine for Passes {
+    ghost step = { passes_step };
+
+    fn eat(&mut self, c: char) {
+        self.plain.eat(c);
+        self.stop.eat(c);
+        self.comma.eat(c);
     }
 }

@@ -2,8 +2,6 @@
 ghost use Rattle.std.specs.Prelude.{◌≡◌};
 ghost use Rattle.page.specs.Forest.{none as no_forest};
 ghost use Rattle.dom.specs.Under.{under_of, plus, element_of};
-ghost use Rattle.text.specs.Marks.{bit};
-ghost use Rattle.names.specs.Is.{is};
 ghost use Rattle.dom.specs.Small.{Small};
 
 use crate::pass::Passes;
@@ -44,15 +42,8 @@ pub struct Under {
     pub long: usize,
 }
 
-// One where the tag is the one sought.
-fn one_if(tag: Tag, sought: Tag) -> usize
-    ensures { result ≡ bit (is sought tag) }
-{
-    if sought.is(tag) { 1 } else { 0 }
-}
-
 impl Under {
-    // Nothing.
+    // Nothing. A derived `Default` would not do: the counter of each state begins in that state.
     pub fn none() -> Under
         ensures { result ≡ under_of no_forest }
     {
@@ -96,19 +87,17 @@ impl Under {
         requires { Small (element_of tag self.now) }
         ensures { result ≡ element_of tag self.now }
     {
-        let linked = if Tag::Anchor.is(tag) { self.text } else { 0 };
+        let linked = if tag == Tag::Anchor { self.text } else { 0 };
         Under {
-            text: self.text,
             links: linked + self.links,
-            chars: self.chars,
-            marks: self.marks,
             block: tag.is_among(&BLOCK_CHILD_TAGS) || self.block,
-            paragraphs: one_if(tag, Tag::P) + self.paragraphs,
-            images: one_if(tag, Tag::Img) + self.images,
-            items: one_if(tag, Tag::Li) + self.items,
-            inputs: one_if(tag, Tag::Input) + self.inputs,
-            embeds: one_if(tag, Tag::Embed) + self.embeds,
+            paragraphs: usize::from(tag == Tag::P) + self.paragraphs,
+            images: usize::from(tag == Tag::Img) + self.images,
+            items: usize::from(tag == Tag::Li) + self.items,
+            inputs: usize::from(tag == Tag::Input) + self.inputs,
+            embeds: usize::from(tag == Tag::Embed) + self.embeds,
             long: 0,
+            ..*self
         }
     }
 }

@@ -1,4 +1,3 @@
 pub mod Sames
 pub mod Occurs
 pub mod Attributes
-pub mod Amongs

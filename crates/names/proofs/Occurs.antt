@@ -1,8 +1,10 @@
 -- A word that occurs in a value, place by place, and as a relation.
-use Rattle.std.proofs.Common.{◌≡◌, ℕ, zero, suc, ◌+◌, ◌<◌, ◌≤◌, Bool, true, false, ◌&&◌, ◌||◌, eqb, ◌⊎◌, List, [], ◌∷◌, ◌++◌, map, length, get_or, drop, Decides, sym, refl, ap, ◌∙◌, inl, inr, arith, Bor}
+use Rattle.std.proofs.Common.{◌≡◌, ℕ, zero, suc, ◌+◌, ◌-◌, ◌<◌, ◌≤◌, Bool, true, false, ◌&&◌, ◌||◌, eqb, ◌⊎◌, List, [], ◌∷◌, ◌++◌, map, length, get_or, drop, Decides, Some, None, sym, refl, ap, ◌∙◌, inl, inr, arith, Bor}
 use Rattle.std.specs.List.{ContainsAt as Has}
-use Rattle.std.proofs.lemmas.List.{drop_more, drop_all, get_or-map, length-map, at_drop_more, at_drop_all}
-use Rattle.std.proofs.lemmas.Bool.{eq-eqb, ne_eqb, eqb-true, and_parts, and_from, and_left, both_ways, or_left, or_right, or_cases}
+use Rattle.std.specs.List.{slice_get, range_with_len, zip, list_any, list_all}
+use Rattle.std.proofs.lemmas.List.{drop_more, drop_all}
+use Rattle.std.proofs.lemmas.Option.{slice_get-get_or}
+use Rattle.std.proofs.lemmas.Bool.{eq-eqb, eqb-true, and_parts, and_from, both_ways, or_left, or_right, or_cases}
 use Rattle.names.specs.Words.{begins, some_begins, has_word, SomeWord}
 
 pub begins-short : (w v : List ℕ) → length v < length w → begins w v ≡ false
@@ -14,53 +16,39 @@ begins-short (c ∷ cs) (b ∷ bs) h = false_right (eqb c b) (begins cs bs) (beg
     false_right true y e = e
     false_right false y e = refl
 
--- a comparison by places, from the place at of the value
-module _ (w v : List ℕ) (at k : ℕ) (f : begins (drop k w) (drop (at + k) v) ≡ begins w (drop at v)) where
-  step : k < length w → at + k < length v → begins (drop k w) (drop (at + k) v) ≡ (eqb (get_or w k 0) (get_or v (at + k) 0) && begins (drop (k + 1) w) (drop (at + (k + 1)) v))
-  step h j =
-      let e : at + k + 1 ≡ at + (k + 1) = omega arith in
-      (λ i. begins (drop_more w k 0 h i) (drop_more v (at + k) 0 j i)) ∙ ap (λ n. eqb (get_or w k 0) (get_or v (at + k) 0) && begins (drop (k + 1) w) (drop n v)) e
+-- whether the byte at a place is b
+abbrev pub is_at : List ℕ → ℕ × ℕ → Bool
+is_at v p = elim (slice_get v p.0) [ None ↦ false | Some x ↦ eqb p.1 x ]
 
-  pub begins-on : k < length w → at + k < length v → get_or v (at + k) 0 ≡ get_or w k 0 → begins (drop (k + 1) w) (drop (at + (k + 1)) v) ≡ begins w (drop at v)
-  begins-on h j e = ap (λ b. b && begins (drop (k + 1) w) (drop (at + (k + 1)) v)) (sym (eq-eqb _ _ (sym e))) ∙ (sym (step h j) ∙ f)
-
-  pub begins-off : k < length w → at + k < length v → (get_or v (at + k) 0 ≡ get_or w k 0 → ⊥) → false ≡ begins w (drop at v)
-  begins-off h j e = sym (and_left _ _ (ne_eqb _ _ (λ x. e (sym x)))) ∙ (sym (step h j) ∙ f)
-
-  pub begins-end : length w ≤ k → true ≡ begins w (drop at v)
-  begins-end h = sym (ap (λ l. begins l (drop (at + k) v)) (drop_all k w h)) ∙ f
+-- a comparison by places, from the place at of the value, which has n bytes from there on
+pub begins-zip : (w v : List ℕ) (at n : ℕ) → length v - at ≡ n → length w ≤ n → list_all (is_at v) (zip (range_with_len at n) w) ≡ begins w (drop at v)
+begins-zip [] v at zero e h = refl
+begins-zip [] v at (suc n) e h = refl
+begins-zip (c ∷ w) v at zero e h = absurd (omega arith)
+begins-zip (c ∷ w) v at (suc n) e h =
+    let inside : at < length v = omega arith in
+    let here : is_at v (at, c) ≡ eqb c (get_or v at 0) = ap (λ o. elim o [ None ↦ false | Some x ↦ eqb c x ]) (slice_get-get_or v at 0 inside) in
+    (λ i. here i && begins-zip w v (at + 1) n (omega arith) (omega arith) i) ∙ ap (begins (c ∷ w)) (sym (drop_more v at 0 inside))
 
 -- a search of the words
-module _ (ws : List (Bor (List ℕ))) (v : List ℕ) (i : ℕ) (f : some_begins (drop i (map (λ x. x.now) ws)) v ≡ some_begins (map (λ x. x.now) ws) v) where
-  at-word : (d : Bor (List ℕ)) → i < length ws → some_begins (drop i (map (λ x. x.now) ws)) v ≡ (begins (get_or ws i d).now v || some_begins (drop (i + 1) (map (λ x. x.now) ws)) v)
-  at-word d h =
-      let l : i < length (map (λ x. x.now) ws) = simp length-map h in
-      at_drop_more (λ l. some_begins l v) (map (λ x. x.now) ws) i [] l ∙ ap (λ x. begins x v || some_begins (drop (i + 1) (map (λ x. x.now) ws)) v) (get_or-map (λ x. x.now) ws i d [] h)
+pub some-any : (ws : List (Bor (List ℕ))) (v : List ℕ) → list_any (λ w. begins w.now v) ws ≡ some_begins (map (λ x. x.now) ws) v
+some-any [] v = refl
+some-any (w ∷ ws) v = ap (λ b. begins w.now v || b) (some-any ws v)
 
-  pub words-on : (d : Bor (List ℕ)) → i < length ws → begins (get_or ws i d).now v ≡ false → some_begins (drop (i + 1) (map (λ x. x.now) ws)) v ≡ some_begins (map (λ x. x.now) ws) v
-  words-on d h e = ap (λ b. b || some_begins (drop (i + 1) (map (λ x. x.now) ws)) v) (sym e) ∙ (sym (at-word d h) ∙ f)
-
-  pub words-here : (d : Bor (List ℕ)) → i < length ws → begins (get_or ws i d).now v ≡ true → true ≡ some_begins (map (λ x. x.now) ws) v
-  words-here d h e = sym (or_left _ _ e) ∙ (sym (at-word d h) ∙ f)
-
-  pub words-end : length ws ≤ i → false ≡ some_begins (map (λ x. x.now) ws) v
-  words-end h = sym (at_drop_all (λ l. some_begins l v) (map (λ x. x.now) ws) i (simp length-map h)) ∙ f
-
--- a search of the places
-module _ (ws : List (List ℕ)) (v : List ℕ) (at : ℕ) (f : has_word ws (drop at v) ≡ has_word ws v) where
-  at_place : at < length v → has_word ws (drop at v) ≡ (some_begins ws (drop at v) || has_word ws (drop (at + 1) v))
-  at_place h =
-      let e = drop_more v at 0 h in
-      ap (has_word ws) e ∙ ap (λ l. some_begins ws l || has_word ws (drop (at + 1) v)) (sym e)
-
-  pub places-on : at < length v → some_begins ws (drop at v) ≡ false → has_word ws (drop (at + 1) v) ≡ has_word ws v
-  places-on h e = ap (λ b. b || has_word ws (drop (at + 1) v)) (sym e) ∙ (sym (at_place h) ∙ f)
-
-  pub places-here : at < length v → some_begins ws (drop at v) ≡ true → true ≡ has_word ws v
-  places-here h e = sym (or_left _ _ e) ∙ (sym (at_place h) ∙ f)
-
-  pub places-end : (len : ℕ) → length v ≤ at → length v ≡ len → some_begins ws (drop len v) ≡ has_word ws v
-  places-end len h e = ap (some_begins ws) (drop_all len v (omega arith) ∙ sym (drop_all at v h)) ∙ (ap (λ l. some_begins ws l) (drop_all at v h) ∙ (sym (ap (has_word ws) (drop_all at v h)) ∙ f))
+-- a search of the places from at on, n of them and the end
+pub has-any : (ws : List (List ℕ)) (v : List ℕ) (at n : ℕ) → at + n ≡ length v → (list_any (λ k. some_begins ws (drop k v)) (range_with_len at n) || some_begins ws (drop (length v) v)) ≡ has_word ws (drop at v)
+has-any ws v at zero e =
+    let end : at ≡ length v = omega arith in
+    ap (some_begins ws) (drop_all (length v) v (omega arith)) ∙ sym (ap (has_word ws) (drop_all at v (omega arith)))
+has-any ws v at (suc n) e =
+    let inside : at < length v = omega arith in
+    let x = some_begins ws (drop at v) in
+    or_assoc x (list_any (λ k. some_begins ws (drop k v)) (range_with_len (at + 1) n)) _
+    ∙ (ap (λ b. x || b) (has-any ws v (at + 1) n (omega arith)) ∙ (ap (λ l. some_begins ws l || has_word ws (drop (at + 1) v)) (drop_more v at 0 inside) ∙ sym (ap (has_word ws) (drop_more v at 0 inside))))
+  where
+    or_assoc : (x y z : Bool) → ((x || y) || z) ≡ (x || (y || z))
+    or_assoc true y z = refl
+    or_assoc false y z = refl
 
 -- what the tests say
 begins-true : (w v : List ℕ) → begins w v ≡ true → v ≡ w ++ drop (length w) v

@@ -1,12 +1,12 @@
 -- The classification of elements by their names.
 use Rattle.std.specs.Prelude.{ℕ, cond, List, [], ◌∷◌, map, codes}
+use Rattle.std.specs.Borrow.{Bor}
 use Rattle.utf8.specs.Decode.{scalars_of}
 use Rattle.page.specs.declared.kind.NodeKind.{NodeKind}
 use Rattle.page.specs.declared.kind.NodeKind.TheVariants.{Document, Doctype, Text, Comment, Element}
 use Rattle.page.specs.Forest.{Forest, none, node}
 use Rattle.names.specs.declared.tag.Tag.{Tag}
 use Rattle.names.specs.declared.tag.Tag.TheVariants.{Anchor, Article, Aside, Blockquote, Br, Canvas, Center, Dd, Div, Dl, Dt, Embed, Footer, Form, H1, Header, Img, Input, Li, Link, Meta, Noscript, Object, Ol, P, Pre, Script, Section, Style, Table, Th, Title, Ul, Other}
-use Rattle.names.specs.declared.tag.Named.{Named}
 use Rattle.names.specs.Names.{lowered, same}
 
 -- the names that the rules tell apart
@@ -53,8 +53,8 @@ sought [] w = Other
 sought (x ∷ xs) w = cond (same x.0 w) x.1 (sought xs w)
 
 -- an entry of the code's table
-abbrev pub entry : Named → List ℕ × Tag
-entry e = (e.name.now, e.tag)
+abbrev pub entry : Bor (List ℕ) × Tag → List ℕ × Tag
+entry e = (e.0.now, e.1)
 
 -- the tag of a name in bytes
 unfoldable pub named : List ℕ → Tag

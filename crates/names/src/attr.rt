@@ -1,36 +1,24 @@
 // Attributes by their names.
-ghost use Rattle.std.specs.Prelude.{◌≡◌, true, is_some};
-ghost use Rattle.page.specs.Forest.{find, has, attrs_of, part_of};
-ghost use Rattle.text.specs.Held.{held};
+ghost use Rattle.std.specs.Prelude.{◌≡◌};
+ghost use Rattle.page.specs.Forest.{find, attrs_of};
 ghost use Rattle.names.specs.Names.{same};
 ghost use Rattle.names.specs.Attrs.{first_index, First};
 
-use page::{Page, Part};
+use crate::word::word_at;
+use page::{Ask, Page, Part};
+use text::PartOf;
 
-// Whether a part that is there holds exactly these bytes; away from one the answer is not determined.
-pub fn is_of<P: Page>(p: &P, n: usize, part: Part, word: &[u8]) -> bool
-    ensures { is_some (part_of (find (P.tree p.now) n) part) ≡ true → result ≡ same word.now (held (P.tree p.now) n part) }
+// Whether a part holds exactly these bytes.
+pub fn is_of<P: Page>(part: &PartOf<'_, P>, word: &[u8]) -> bool
+    ensures { result ≡ same word.now part.now }
 {
-    if p.len_of(n, part) != word.len() {
-        return false;
-    }
-    for (k, b) in word.iter().enumerate() {
-        if p.byte_of(n, part, k) != *b {
-            return false;
-        }
-    }
-    true
+    part.len() == word.len() && word_at(part, 0, word)
 }
 
-// Which attribute of a node is the first of this name; away from a node the answer is not determined.
+// Which attribute of a node is the first of this name.
 pub fn first_attr_of<P: Page>(p: &P, n: usize, name: &[u8]) -> Option<usize>
-    ensures index { has (P.tree p.now) n ≡ true → result ≡ first_index (attrs_of (find (P.tree p.now) n)) name.now }
-    ensures first { has (P.tree p.now) n ≡ true → First (attrs_of (find (P.tree p.now) n)) name.now result }
+    ensures index { result ≡ first_index (attrs_of (find (P.tree p.now) n)) name.now }
+    ensures first { First (attrs_of (find (P.tree p.now) n)) name.now result }
 {
-    for j in 0..p.attrs_of(n) {
-        if is_of(p, n, Part::Name(j), name) {
-            return Some(j);
-        }
-    }
-    None
+    (0..p.attrs(n).unwrap_or(0)).find(|j| is_of(&PartOf::new(p, n, Part::Name(*j)), name))
 }

@@ -7,8 +7,7 @@ pub fn lower(c: char) -> char
     ensures { result ≡ lowered c }
 {
     match c {
-        'A'..='Z' => (c as u8 + 32) as char,
         '\u{212a}' => 'k',
-        _ => c,
+        _ => c.to_ascii_lowercase(),
     }
 }

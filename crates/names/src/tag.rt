@@ -1,19 +1,17 @@
 // The one classification of elements by their names.
-ghost use Rattle.std.specs.Prelude.{◌≡◌, true, map, is_some, Decides};
+ghost use Rattle.std.specs.Prelude.{◌≡◌, map, Decides};
 ghost use Rattle.utf8.specs.Decode.{scalars_of};
-ghost use Rattle.page.specs.Forest.{find, has, part_of};
-ghost use Rattle.page.specs.declared.kind.Part.TheVariants.{Content};
-ghost use Rattle.text.specs.Held.{held};
+ghost use Rattle.page.specs.Forest.{find};
 ghost use Rattle.names.specs.Is.{is, among};
 ghost use Rattle.names.specs.Names.{lowered, same};
 ghost use Rattle.names.specs.Tags.{entry, sought, tag_of};
 
 use crate::case::lower;
-use page::{NodeKind, Page, Part};
-use text::char_of;
+use page::{Ask, NodeKind, Page, Part};
+use text::PartOf;
 
 // What the rules tell apart; every other name, and what is no element, is Other.
-#[derive(Clone, Copy)]
+#[derive(Clone, Copy, PartialEq, Eq)]
 pub enum Tag {
     Anchor,
     Article,
@@ -57,201 +55,87 @@ impl Tag {
         ensures value { result ≡ is self other }
         ensures decides { Decides result (self ≡ other) }
     {
-        self as u8 == other as u8
+        self == other
     }
 
     // Whether this is one of the tags.
     pub fn is_among(self, tags: &[Tag]) -> bool
         ensures { result ≡ among tags.now self }
     {
-        for t in tags {
-            if t.is(self) {
-                return true;
-            }
-        }
-        false
+        tags.contains(&self)
     }
 }
 
-// A lowered name with its tag.
-pub struct Named {
-    name: &'static [u8],
-    tag: Tag,
-}
-
-const TAGS: [Named; 33] = [
-    Named {
-        name: b"a",
-        tag: Tag::Anchor,
-    },
-    Named {
-        name: b"article",
-        tag: Tag::Article,
-    },
-    Named {
-        name: b"aside",
-        tag: Tag::Aside,
-    },
-    Named {
-        name: b"blockquote",
-        tag: Tag::Blockquote,
-    },
-    Named {
-        name: b"br",
-        tag: Tag::Br,
-    },
-    Named {
-        name: b"canvas",
-        tag: Tag::Canvas,
-    },
-    Named {
-        name: b"center",
-        tag: Tag::Center,
-    },
-    Named {
-        name: b"dd",
-        tag: Tag::Dd,
-    },
-    Named {
-        name: b"div",
-        tag: Tag::Div,
-    },
-    Named {
-        name: b"dl",
-        tag: Tag::Dl,
-    },
-    Named {
-        name: b"dt",
-        tag: Tag::Dt,
-    },
-    Named {
-        name: b"embed",
-        tag: Tag::Embed,
-    },
-    Named {
-        name: b"footer",
-        tag: Tag::Footer,
-    },
-    Named {
-        name: b"form",
-        tag: Tag::Form,
-    },
-    Named {
-        name: b"h1",
-        tag: Tag::H1,
-    },
-    Named {
-        name: b"header",
-        tag: Tag::Header,
-    },
-    Named {
-        name: b"img",
-        tag: Tag::Img,
-    },
-    Named {
-        name: b"input",
-        tag: Tag::Input,
-    },
-    Named {
-        name: b"li",
-        tag: Tag::Li,
-    },
-    Named {
-        name: b"link",
-        tag: Tag::Link,
-    },
-    Named {
-        name: b"meta",
-        tag: Tag::Meta,
-    },
-    Named {
-        name: b"noscript",
-        tag: Tag::Noscript,
-    },
-    Named {
-        name: b"object",
-        tag: Tag::Object,
-    },
-    Named {
-        name: b"ol",
-        tag: Tag::Ol,
-    },
-    Named {
-        name: b"p",
-        tag: Tag::P,
-    },
-    Named {
-        name: b"pre",
-        tag: Tag::Pre,
-    },
-    Named {
-        name: b"script",
-        tag: Tag::Script,
-    },
-    Named {
-        name: b"section",
-        tag: Tag::Section,
-    },
-    Named {
-        name: b"style",
-        tag: Tag::Style,
-    },
-    Named {
-        name: b"table",
-        tag: Tag::Table,
-    },
-    Named {
-        name: b"th",
-        tag: Tag::Th,
-    },
-    Named {
-        name: b"title",
-        tag: Tag::Title,
-    },
-    Named {
-        name: b"ul",
-        tag: Tag::Ul,
-    },
+// The lowered names with their tags.
+const TAGS: [(&[u8], Tag); 33] = [
+    (b"a", Tag::Anchor),
+    (b"article", Tag::Article),
+    (b"aside", Tag::Aside),
+    (b"blockquote", Tag::Blockquote),
+    (b"br", Tag::Br),
+    (b"canvas", Tag::Canvas),
+    (b"center", Tag::Center),
+    (b"dd", Tag::Dd),
+    (b"div", Tag::Div),
+    (b"dl", Tag::Dl),
+    (b"dt", Tag::Dt),
+    (b"embed", Tag::Embed),
+    (b"footer", Tag::Footer),
+    (b"form", Tag::Form),
+    (b"h1", Tag::H1),
+    (b"header", Tag::Header),
+    (b"img", Tag::Img),
+    (b"input", Tag::Input),
+    (b"li", Tag::Li),
+    (b"link", Tag::Link),
+    (b"meta", Tag::Meta),
+    (b"noscript", Tag::Noscript),
+    (b"object", Tag::Object),
+    (b"ol", Tag::Ol),
+    (b"p", Tag::P),
+    (b"pre", Tag::Pre),
+    (b"script", Tag::Script),
+    (b"section", Tag::Section),
+    (b"style", Tag::Style),
+    (b"table", Tag::Table),
+    (b"th", Tag::Th),
+    (b"title", Tag::Title),
+    (b"ul", Tag::Ul),
 ];
 
-// Whether the content of a node spells the word, lowered.
-fn spells<P: Page>(p: &P, n: usize, word: &[u8]) -> bool
-    ensures { is_some (part_of (find (P.tree p.now) n) Content) ≡ true → result ≡ same word.now (map lowered (scalars_of (held (P.tree p.now) n Content))) }
+// Whether a part spells the word, lowered.
+fn spells<P: Page>(part: &PartOf<'_, P>, word: &[u8]) -> bool
+    ensures { result ≡ same word.now (map lowered (scalars_of part.now)) }
 {
-    let mut at = 0;
+    // The proof of `eq` on the two mapped iterators did not close.
+    let mut chars = part.chars();
     for b in word {
-        let Some((c, w)) = char_of(p, n, Part::Content, at) else {
+        let Some(c) = chars.next() else {
             return false;
         };
-        if lower(c) != *b as char {
+        if lower(c) != char::from(*b) {
             return false;
         }
-        at += w;
     }
-    if let Some(_) = char_of(p, n, Part::Content, at) {
-        return false;
-    }
-    true
+    chars.next().is_none()
 }
 
-// The tag that a table has for the content of a node.
-fn look_up<P: Page>(p: &P, n: usize, table: &[Named]) -> Tag
-    ensures { is_some (part_of (find (P.tree p.now) n) Content) ≡ true → result ≡ sought (map entry table.now) (map lowered (scalars_of (held (P.tree p.now) n Content))) }
+// The tag that a table has for what a part spells.
+fn look_up<P: Page>(part: &PartOf<'_, P>, table: &[(&[u8], Tag)]) -> Tag
+    ensures { result ≡ sought (map entry table.now) (map lowered (scalars_of part.now)) }
 {
-    for e in table {
-        if spells(p, n, e.name) {
-            return e.tag;
-        }
-    }
-    Tag::Other
+    table
+        .iter()
+        .find(|e| spells(part, e.0))
+        .map_or(Tag::Other, |e| e.1)
 }
 
-// The tag of a node; away from one the answer is not determined.
+// The tag of a node.
 pub fn tag_of<P: Page>(p: &P, n: usize) -> Tag
-    ensures { has (P.tree p.now) n ≡ true → result ≡ tag_of (find (P.tree p.now) n) }
+    ensures { result ≡ tag_of (find (P.tree p.now) n) }
 {
-    match p.kind_of(n) {
-        NodeKind::Element => look_up(p, n, &TAGS),
+    match p.kind(n) {
+        Some(NodeKind::Element) => look_up(&PartOf::new(p, n, Part::Content), &TAGS),
         _ => Tag::Other,
     }
 }

@@ -1,10 +1,9 @@
 // Words sought in a value.
-ghost use Rattle.std.specs.Prelude.{◌≡◌, ◌≤◌, true, map, length, drop, is_some, Decides};
-ghost use Rattle.page.specs.Forest.{find, part_of};
-ghost use Rattle.text.specs.Held.{held};
+ghost use Rattle.std.specs.Prelude.{◌≡◌, map, drop, Decides};
 ghost use Rattle.names.specs.Words.{begins, some_begins, has_word, SomeWord};
 
-use page::{Page, Part};
+use page::Page;
+use text::PartOf;
 
 pub const UNLIKELY_CANDIDATES: [&[u8]; 21] = [
     b"combx",
@@ -77,46 +76,29 @@ pub const NEGATIVE_CANDIDATES: [&[u8]; 25] = [
     b"hidden",
 ];
 
-// Whether the word stands at the place, in a part of which the length is given.
-fn word_at<P: Page>(p: &P, n: usize, part: Part, len: usize, at: usize, word: &[u8]) -> bool
-    requires { at ≤ len }
-    ensures { len ≡ length (held (P.tree p.now) n part) → result ≡ begins word.now (drop at (held (P.tree p.now) n part)) }
+// Whether the word stands at the place of a part.
+pub(crate) fn word_at<P: Page>(part: &PartOf<'_, P>, at: usize, word: &[u8]) -> bool
+    ensures { result ≡ begins word.now (drop at part.now) }
 {
-    if len - at < word.len() {
-        return false;
-    }
-    for (k, b) in word.iter().enumerate() {
-        if p.byte_of(n, part, at + k) != *b {
-            return false;
-        }
-    }
-    true
+    word.len() <= part.len().saturating_sub(at)
+        && (at..part.len())
+            .zip(word)
+            .all(|(i, b)| part.get(i) == Some(*b))
 }
 
 // Whether one of the words stands at the place.
-fn some_at<P: Page>(p: &P, n: usize, part: Part, len: usize, at: usize, words: &[&[u8]]) -> bool
-    requires { at ≤ len }
-    ensures { len ≡ length (held (P.tree p.now) n part) → result ≡ some_begins (map (λ x. x.now) words.now) (drop at (held (P.tree p.now) n part)) }
+fn some_at<P: Page>(part: &PartOf<'_, P>, at: usize, words: &[&[u8]]) -> bool
+    ensures { result ≡ some_begins (map (λ x. x.now) words.now) (drop at part.now) }
 {
-    for word in words {
-        if word_at(p, n, part, len, at, word) {
-            return true;
-        }
-    }
-    false
+    words.iter().any(|word| word_at(part, at, word))
 }
 
-// Whether one of the words occurs in a part that is there, letter case counting; away from one the answer is not
-// determined.
-pub fn has_word_of<P: Page>(p: &P, n: usize, part: Part, words: &[&[u8]]) -> bool
-    ensures value { is_some (part_of (find (P.tree p.now) n) part) ≡ true → result ≡ has_word (map (λ x. x.now) words.now) (held (P.tree p.now) n part) }
-    ensures occurs { is_some (part_of (find (P.tree p.now) n) part) ≡ true → Decides result (SomeWord (map (λ x. x.now) words.now) (held (P.tree p.now) n part)) }
+// Whether one of the words occurs in a part, letter case counting.
+pub fn has_word_of<P: Page>(part: &PartOf<'_, P>, words: &[&[u8]]) -> bool
+    ensures value { result ≡ has_word (map (λ x. x.now) words.now) part.now }
+    ensures occurs { Decides result (SomeWord (map (λ x. x.now) words.now) part.now) }
 {
-    let len = p.len_of(n, part);
-    for at in 0..len {
-        if some_at(p, n, part, len, at, words) {
-            return true;
-        }
-    }
-    some_at(p, n, part, len, len, words)
+    // The library proves less of `0..=len` than of `0..len`.
+    let len = part.len();
+    (0..len).any(|at| some_at(part, at, words)) || some_at(part, len, words)
 }

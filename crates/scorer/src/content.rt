@@ -17,13 +17,7 @@ const TEXT_TAGS: [Tag; 4] = [Tag::Div, Tag::Article, Tag::Center, Tag::Section];
 pub fn qualifies_by(tag: Tag, under: &Under) -> bool
     ensures { result ≡ qualifies_by tag under.now }
 {
-    if under.text < 20 {
-        return false;
-    }
-    if Tag::P.is(tag) {
-        return true;
-    }
-    tag.is_among(&TEXT_TAGS) && !under.block
+    under.text >= 20 && (tag == Tag::P || tag.is_among(&TEXT_TAGS) && !under.block)
 }
 
 // The content score, by the figures of what is under a node.
@@ -33,7 +27,7 @@ pub fn content_score_by(under: &Under) -> usize
     under
         .marks
         .plain
-        .count
+        .count()
         .saturating_add(1)
         .saturating_add((under.chars / 100).min(3))
 }
@@ -43,11 +37,7 @@ pub fn content_score_by(under: &Under) -> usize
 pub fn qualifies<P: Page>(p: &P, n: usize) -> bool
     ensures { result ≡ qualifies_in (find (P.tree p.now) n) }
 {
-    if p.has(n) {
-        qualifies_by(tag_of(p, n), &under_of(p, n))
-    } else {
-        false
-    }
+    qualifies_by(tag_of(p, n), &under_of(p, n))
 }
 
 // The content score of what is under n.

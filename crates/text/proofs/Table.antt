@@ -1,8 +1,7 @@
 -- The table has exactly the characters that std's White_Space test passes.
-use Rattle.std.proofs.Common.{◌≡◌, ℕ, zero, suc, ◌+◌, ◌<◌, ◌≤◌, Bool, true, false, ◌&&◌, ◌||◌, eqb, ltb, List, [], ◌∷◌, length, get_or, drop, sym, refl, ap, ◌∙◌, inl, inr, arith}
+use Rattle.std.proofs.Common.{◌≡◌, ℕ, zero, suc, ◌+◌, ◌<◌, ◌≤◌, Bool, true, false, ◌&&◌, ◌||◌, eqb, ltb, List, [], ◌∷◌, sym, refl, ap, ◌∙◌, inl, inr, arith}
 use Rattle.std.specs.Char.{is_whitespace}
-use Rattle.std.proofs.lemmas.List.{at_drop_more, at_drop_all}
-use Rattle.std.proofs.lemmas.Bool.{eqb-true, eq-eqb, ne_eqb, ltb-true, and_parts, or_left, cases_lt, both_ways}
+use Rattle.std.proofs.lemmas.Bool.{eqb-true, ltb-true, and_parts, cases_lt, both_ways}
 use Rattle.std.proofs.lemmas.Bool.Decides.{same_from_decides, nat_tests}
 use Rattle.text.specs.Space.{spaces, listed, space}
 
@@ -47,21 +46,6 @@ pub space-white : (c : ℕ) → space c ≡ is_whitespace c
 unfolding space
 space-white c = same_from_decides {P = listed spaces c ≡ true} (listed spaces c) (is_whitespace c) ((λ h. h), (λ h. h)) (white-listed c, listed-every is_whitespace spaces c refl)
 
--- a search for c: past an entry that is another, at one that is c, and at the end
-pub pass : (ss : List ℕ) (i c : ℕ) → i < length ss → (get_or ss i 0 ≡ c → ⊥) → listed (drop i ss) c ≡ listed ss c → listed (drop (i + 1) ss) c ≡ listed ss c
-pass ss i c l d e = ap (λ b. b || listed (drop (i + 1) ss) c) (sym (ne_eqb (get_or ss i 0) c d)) ∙ (sym (at_drop_more (λ l. listed l c) ss i 0 l) ∙ e)
-
-pub found : (ss : List ℕ) (i c : ℕ) → i < length ss → get_or ss i 0 ≡ c → listed (drop i ss) c ≡ listed ss c → true ≡ listed ss c
-found ss i c l d e = sym (sym e ∙ (at_drop_more (λ l. listed l c) ss i 0 l ∙ or_left _ _ (eq-eqb (get_or ss i 0) c d)))
-
-pub missed : (ss : List ℕ) (i c : ℕ) → length ss ≤ i → listed (drop i ss) c ≡ listed ss c → false ≡ listed ss c
-missed ss i c l e = sym (at_drop_all (λ l. listed l c) ss i l) ∙ e
-
 -- no character between the space and 0x85 is White_Space
 pub printed : (c : ℕ) → 32 < c → c < 133 → false ≡ is_whitespace c
 printed c h k = grind (arith, nat_tests)
-
--- an answer by the table is one by std's test
-pub by-table : (b : Bool) (c : ℕ) → b ≡ listed spaces c → b ≡ is_whitespace c
-unfolding space
-by-table b c e = e ∙ space-white c

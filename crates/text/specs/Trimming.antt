@@ -1,5 +1,5 @@
 -- The machine that trims, and what it has measured after any text.
-use Rattle.std.specs.Prelude.{◌≡◌, ℕ, ◌+◌, ◌-◌, ◌^◌, ◌<◌, min, Bool, true, false, cond, not, List}
+use Rattle.std.specs.Prelude.{◌≡◌, ℕ, ◌+◌, ◌-◌, ◌^◌, ◌<◌, min, Bool, true, false, not, List, Some, None, Option, is_some}
 use Rattle.std.specs.Char.{len_utf8}
 use Rattle.text.specs.declared.trim.Trimmed.{Trimmed}
 use Rattle.text.specs.declared.trim.Trim.{Trim}
@@ -11,10 +11,17 @@ use Rattle.text.specs.Trim.{weight, total, blank, trimmed_length, trimmed_bytes}
 abbrev pub plus : ℕ → ℕ → ℕ
 plus a b = min (a + b) (2 ^ 64 - 1)
 
--- a figure after a character, which is White_Space or not
-abbrev pub added : Trimmed → Bool → ℕ → Trimmed
-added m true by = record { started = m.started; sum = m.sum; gap = cond m.started (plus m.gap by) m.gap }
-added m false by = record { started = true; sum = plus (plus m.sum m.gap) by; gap = 0 }
+-- a figure after a character, which is White_Space or not; a text has begun with its first character that is not
+abbrev pub added : Option Trimmed → Bool → ℕ → Option Trimmed
+added None true by = None
+added None false by = Some (record { sum = by; gap = 0 })
+added (Some m) true by = Some (record { sum = m.sum; gap = plus m.gap by })
+added (Some m) false by = Some (record { sum = plus (plus m.sum m.gap) by; gap = 0 })
+
+-- nothing of a text that has not begun
+abbrev pub sum_of : Option Trimmed → ℕ
+sum_of None = 0
+sum_of (Some m) = m.sum
 
 -- the machine after a character
 abbrev pub trim_step : Trim → ℕ → Trim
@@ -24,4 +31,4 @@ trim_step m c = record { chars = added m.chars (space c) (weight c); bytes = add
 abbrev pub Trims : Trim → Type 0
 Trims m =
     (cs : List ℕ) → total len_utf8 cs < 2 ^ 64
-    → ((run trim_step m cs).chars.sum ≡ trimmed_length cs) × ((run trim_step m cs).bytes.sum ≡ trimmed_bytes cs) × (not (run trim_step m cs).chars.started ≡ blank cs)
+    → (sum_of (run trim_step m cs).chars ≡ trimmed_length cs) × (sum_of (run trim_step m cs).bytes ≡ trimmed_bytes cs) × (not (is_some (run trim_step m cs).chars) ≡ blank cs)

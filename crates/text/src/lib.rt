@@ -1,14 +1,14 @@
 // The characters of a page's parts, and the machines that measure them.
 #![tactic(auto)]
 
-mod feed;
+mod machine;
 mod marks;
-mod read;
+mod part;
 mod space;
 mod trim;
 
-pub use feed::{Machine, feed_of};
+pub use machine::Machine;
 pub use marks::{Marks, State};
-pub use read::char_of;
+pub use part::{Chars, PartOf};
 pub use space::is_space;
-pub use trim::{Trim, Trimmed, trim_of};
+pub use trim::{Trim, Trimmed};

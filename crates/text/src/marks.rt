@@ -1,8 +1,8 @@
 // Punctuation, counted as the text goes by.
-ghost use Rattle.std.specs.Prelude.{◌≡◌};
+ghost use Rattle.std.specs.Prelude.{◌≡◌, ◌+◌, ◌-◌, ◌^◌, min};
 ghost use Rattle.text.specs.Marks.{mark_step, Counts};
 
-use crate::feed::Machine;
+use crate::machine::Machine;
 
 // Where the counter stands: in plain text, after a stop that may begin a match, or after such a comma.
 #[derive(Clone, Copy, PartialEq, Eq, Debug)]
@@ -40,6 +40,17 @@ impl Marks {
     {
         self.count
     }
+
+    // The matches of this text and of the next, where the next was counted from where this one ended.
+    pub fn then(&self, next: &Marks) -> Marks
+        ensures state { result.state ≡ next.now.state }
+        ensures count { result.count ≡ min (self.now.count + next.now.count) (2 ^ 64 - 1) }
+    {
+        Marks {
+            state: next.state,
+            count: self.count.saturating_add(next.count),
+        }
+    }
 }
 
 impl Machine for Marks {
@@ -59,8 +70,6 @@ impl Machine for Marks {
             (State::AfterComma, _) => (State::Plain, true),
         };
         self.state = state;
-        if matched {
-            self.count = self.count.saturating_add(1);
-        }
+        self.count = self.count.saturating_add(usize::from(matched));
     }
 }

@@ -18,10 +18,5 @@ pub fn is_space(c: char) -> bool
     if ' ' < c && c < '\u{85}' {
         return false;
     }
-    for s in SPACES {
-        if s == c {
-            return true;
-        }
-    }
-    false
+    SPACES.contains(&c)
 }

@@ -1,106 +1,99 @@
 // Trimming: what is left of a text without the White_Space at its ends, measured as the text goes by.
-ghost use Rattle.std.specs.Prelude.{◌≡◌, Bool, true, not, is_some};
+ghost use Rattle.std.specs.Prelude.{◌≡◌, not, is_some};
 ghost use Rattle.utf8.specs.Decode.{scalars_of};
-ghost use Rattle.page.specs.Forest.{find, part_of};
-ghost use Rattle.text.specs.Held.{held};
-ghost use Rattle.text.specs.Trim.{weight, blank, trimmed_length, trimmed_bytes};
-ghost use Rattle.text.specs.Trimming.{added, trim_step, Trims};
+ghost use Rattle.text.specs.Trim.{blank, trimmed_length, trimmed_bytes};
+ghost use Rattle.text.specs.Trimming.{added, sum_of, trim_step, Trims};
 
-use crate::feed::{Machine, feed_of};
+use crate::machine::Machine;
+use crate::part::PartOf;
 use crate::space::is_space;
-use page::{Page, Part};
+use page::Page;
 
-// One figure of the trimmed text: its sum so far, and what the White_Space behind it will add if the text goes on.
+// One figure of a trimmed text that has begun: its sum so far, and what the White_Space behind it will add if the text
+// goes on.
 #[derive(Clone, Copy)]
 pub struct Trimmed {
-    started: bool,
     sum: usize,
     gap: usize,
 }
 
-impl Trimmed {
-    // One character more, that adds so much to the figure.
-    fn add(&mut self, is_space: bool, by: usize)
-        ensures { self.new ≡ added self.old is_space by }
-    {
-        if !is_space {
-            self.sum = self.sum.saturating_add(self.gap).saturating_add(by);
-            self.gap = 0;
-            self.started = true;
-        } else if self.started {
-            self.gap = self.gap.saturating_add(by);
-        }
+// A figure after one character more, that adds so much to it.
+fn added(figure: Option<Trimmed>, is_space: bool, by: usize) -> Option<Trimmed>
+    ensures { result ≡ added figure is_space by }
+{
+    match figure {
+        Some(f) if is_space => Some(Trimmed {
+            gap: f.gap.saturating_add(by),
+            ..f
+        }),
+        Some(f) => Some(Trimmed {
+            sum: f.sum.saturating_add(f.gap).saturating_add(by),
+            gap: 0,
+        }),
+        None if is_space => None,
+        None => Some(Trimmed { sum: by, gap: 0 }),
     }
 }
 
-// The length and the bytes of the trimmed text.
+// The length and the bytes of the trimmed text, once it has begun.
 #[derive(Clone, Copy)]
 pub struct Trim {
-    chars: Trimmed,
-    bytes: Trimmed,
-}
-
-// What a character adds to a length.
-fn weight_of(_c: char) -> usize
-    ensures { result ≡ weight _c }
-{
-    1
+    chars: Option<Trimmed>,
+    bytes: Option<Trimmed>,
 }
 
 impl Trim {
     pub fn new() -> Trim
         ensures { Trims result }
     {
-        let none = Trimmed {
-            started: false,
-            sum: 0,
-            gap: 0,
-        };
         Trim {
-            chars: none,
-            bytes: none,
+            chars: None,
+            bytes: None,
         }
     }
 
     // The length of the trimmed text.
     pub fn length(&self) -> usize
-        ensures { result ≡ self.now.chars.sum }
+        ensures { result ≡ sum_of self.now.chars }
     {
-        self.chars.sum
+        self.chars.map_or(0, |f| f.sum)
     }
 
     // The bytes of the trimmed text.
     pub fn size(&self) -> usize
-        ensures { result ≡ self.now.bytes.sum }
+        ensures { result ≡ sum_of self.now.bytes }
     {
-        self.bytes.sum
+        self.bytes.map_or(0, |f| f.sum)
     }
 
     // Whether nothing is left.
     pub fn is_blank(&self) -> bool
-        ensures { result ≡ not self.now.chars.started }
+        ensures { result ≡ not (is_some self.now.chars) }
     {
-        !self.chars.started
+        self.chars.is_none()
     }
 }
 
 impl Machine for Trim {
     ghost step = { trim_step };
 
+    #[tactic(auto, unfolding(crate::specs::Trim::weight))]
     fn eat(&mut self, c: char) {
         let is_space = is_space(c);
-        self.chars.add(is_space, weight_of(c));
-        self.bytes.add(is_space, c.len_utf8());
+        self.chars = added(self.chars, is_space, 1);
+        self.bytes = added(self.bytes, is_space, c.len_utf8());
     }
 }
 
-// Trims a part that is there; away from one the answer is not determined.
-pub fn trim_of<P: Page>(p: &P, n: usize, part: Part) -> Trim
-    ensures chars { is_some (part_of (find (P.tree p.now) n) part) ≡ true → result.chars.sum ≡ trimmed_length (scalars_of (held (P.tree p.now) n part)) }
-    ensures bytes { is_some (part_of (find (P.tree p.now) n) part) ≡ true → result.bytes.sum ≡ trimmed_bytes (scalars_of (held (P.tree p.now) n part)) }
-    ensures blank { is_some (part_of (find (P.tree p.now) n) part) ≡ true → not result.chars.started ≡ blank (scalars_of (held (P.tree p.now) n part)) }
-{
-    let mut trim = Trim::new();
-    feed_of(p, n, part, &mut trim);
-    trim
+impl<'p, P: Page> PartOf<'p, P> {
+    // The part, trimmed.
+    pub fn trim(&self) -> Trim
+        ensures chars { sum_of result.chars ≡ trimmed_length (scalars_of self.now) }
+        ensures bytes { sum_of result.bytes ≡ trimmed_bytes (scalars_of self.now) }
+        ensures blank { not (is_some result.chars) ≡ blank (scalars_of self.now) }
+    {
+        let mut trim = Trim::new();
+        self.feed(&mut trim);
+        trim
+    }
 }

@@ -1,48 +1,43 @@
 -- Each part of the machine has its figure.
-use Rattle.std.proofs.Common.{◌≡◌, ℕ, ◌^◌, ◌<◌, leb, List, length, refl, ap, ◌∙◌, arith}
+use Rattle.std.proofs.Common.{◌≡◌, ◌^◌, ◌<◌, leb, length, ap, ◌∙◌, arith, rules}
 use Rattle.std.specs.Char.{len_utf8}
 use Rattle.utf8.specs.Decode.{scalars_of}
 use Rattle.page.specs.declared.kind.Part.TheVariants.{Content}
-use Rattle.text.specs.declared.marks.State.{State}
-use Rattle.text.specs.declared.marks.Marks.{Marks}
 use Rattle.text.specs.Held.{held, run}
 use Rattle.text.specs.Trim.{total}
-use Rattle.text.specs.Marks.{bit, hits, after, mark_step, Counts}
+use Rattle.text.specs.Trimming.{sum_of}
+use Rattle.text.specs.Marks.{bit}
 use Rattle.text.proofs.Trims.{widths-held}
-use Rattle.dom.specs.declared.pass.Pass.{Pass}
-use Rattle.dom.specs.Passes.{pass_of}
-use Rattle.dom.proofs.Joins.{alike, same-pass, same-passes}
+use Rattle.dom.specs.declared.scan.Scan.{Scan}
+use Rattle.dom.specs.Passes.{passes_step}
+use Rattle.dom.specs.Scan.{scan_step}
+use Rattle.dom.proofs.Joins.{alike}
 use Rattle.dom.proofs.Bounds.{chars-held}
-use Rattle.dom.proofs.Scans.{run-trim, run-plain, run-stop, run-comma, run-chars}
+use Rattle.dom.proofs.Scans.{run-trim, run-marks, run-chars, all-passed}
 use Rattle.dom.proofs.scan.leaf_of.Goals as goal
 
--- a pass taken by a new counter
-passed : (p : Pass) (m new : Marks) (s : State) (cs : List ℕ) → (p.end ≡ m.state) × (p.count ≡ m.count) → m ≡ run mark_step new cs → (new.state ≡ s) × (new.count ≡ 0) → Counts new → length cs < 2 ^ 64 → p ≡ pass_of s cs
-passed p m new s cs is fed start law l =
-    same-pass p (pass_of s cs) (is.0 ∙ (ap (λ m. m.state) fed ∙ (law.stands cs ∙ ap (λ s. after s cs) start.0)))
-    (is.1 ∙ (ap (λ m. m.count) fed ∙ (law.counts start.1 cs l ∙ ap (λ s. hits s cs) start.0)))
-
 pub returns : goal.returns
-returns g c s =
+returns g c =
     let xs = held (g.P.Page.tree c.args.p.now) c.args.n Content in
     let cs = scalars_of xs in
-    let fed = c.feed_of.ensures.fed s in
-    let few : total len_utf8 cs < 2 ^ 64 = omega (arith, widths-held xs, c.feed_of.ensures.fits s) in
-    let short : length cs < 2 ^ 64 = omega (arith, chars-held xs, c.feed_of.ensures.fits s) in
+    let old : Scan = record { trim = c.new.result; chars = 0; marks = c.none.result } in
+    let fed : c.feed.new.m ≡ run scan_step old cs = c.feed.ensures.fed ∙ ap (λ l. run scan_step old (scalars_of l)) c.new-2.ensures in
+    let fits : length xs < 2 ^ 64 = omega (arith, c.feed.ensures.fits, ap length c.new-2.ensures) in
+    let few : total len_utf8 cs < 2 ^ 64 = omega (arith, widths-held xs) in
+    let short : length cs < 2 ^ 64 = omega (arith, chars-held xs) in
     let trimmed = c.new.ensures cs few in
+    let none = c.none-2.ensures in
+    let is : c.from.result ≡ bit (leb 20 c.size.result) = search rules in
     alike (record {
-      text = c.length.ensures ∙ (ap (λ m. m.trim.chars.sum) fed ∙ (ap (λ m. m.chars.sum) (run-trim cs _) ∙ trimmed.0));
-      links = refl;
-      chars = ap (λ m. m.chars) fed ∙ (run-chars cs _ (omega arith) ∙ (omega arith));
-      marks = same-passes _ _
-          (passed c.pass_of.result _ c.new-2.result _ cs c.pass_of.ensures (ap (λ m. m.plain) fed ∙ run-plain cs _) c.new-2.ensures.start c.new-2.ensures.counts short)
-          (passed c.pass_of-2.result _ c.new-3.result _ cs c.pass_of-2.ensures (ap (λ m. m.stop) fed ∙ run-stop cs _) c.new-3.ensures.start c.new-3.ensures.counts short)
-          (passed c.pass_of-3.result _ c.new-4.result _ cs c.pass_of-3.ensures (ap (λ m. m.comma) fed ∙ run-comma cs _) c.new-4.ensures.start c.new-4.ensures.counts short);
-      block = refl;
-      paragraphs = refl;
-      images = refl;
-      items = refl;
-      inputs = refl;
-      embeds = refl;
-      long = c.one_if_long.ensures ∙ ap (λ n. bit (leb 20 n)) (c.size.ensures ∙ (ap (λ m. m.trim.bytes.sum) fed ∙ (ap (λ m. m.bytes.sum) (run-trim cs _) ∙ trimmed.1)));
+      text = c.length.ensures ∙ (ap (λ m. sum_of m.trim.chars) fed ∙ (ap (λ m. sum_of m.chars) (run-trim cs old) ∙ trimmed.0));
+      links = ap (λ u. u.links) none;
+      chars = ap (λ m. m.chars) fed ∙ (run-chars cs old (omega arith) ∙ (omega arith));
+      marks = ap (λ m. m.marks) fed ∙ (run-marks cs old ∙ (ap (λ p. run passes_step p cs) c.none.ensures ∙ all-passed cs short));
+      block = ap (λ u. u.block) none;
+      paragraphs = ap (λ u. u.paragraphs) none;
+      images = ap (λ u. u.images) none;
+      items = ap (λ u. u.items) none;
+      inputs = ap (λ u. u.inputs) none;
+      embeds = ap (λ u. u.embeds) none;
+      long = is ∙ ap (λ n. bit (leb 20 n)) (c.size.ensures ∙ (ap (λ m. sum_of m.trim.bytes) fed ∙ (ap (λ m. sum_of m.bytes) (run-trim cs old) ∙ trimmed.1)));
     })

@@ -1,38 +1,26 @@
--- A turn passes one attribute.
-use Rattle.std.proofs.Common.{◌≡◌, ◌<◌, true, length, Some, None, sym, ap, ◌∙◌, subst, arith}
-use Rattle.page.specs.Forest.{find, has, attrs_of}
+-- The first place of which the name is this.
+use Rattle.std.proofs.Common.{◌≡◌, sym, refl, ◌∙◌, subst, length, rules, arith, Option, ℕ, None, Some}
+use borrow.Author.Tests.{tests}
+use Rattle.std.specs.Option.{option_map}
+use Rattle.std.proofs.lemmas.Iterator.{YieldsList-from_range}
+use Rattle.std.proofs.lemmas.Iterator.Search.{find_from_yields_List}
+use Rattle.page.specs.Forest.{find, attrs_of, part_of}
+use Rattle.page.specs.declared.kind.Part.TheVariants.{Name}
+use Rattle.text.specs.Held.{bytes_in}
 use Rattle.names.specs.Names.{same}
 use Rattle.names.specs.Attrs.{first_index, First}
-use Rattle.names.proofs.Attributes.{name-at, count-is, search-begin, search-on, search-here, search-end, first}
+use Rattle.names.proofs.Attributes.{count-is, first-found, first}
 use Rattle.names.proofs.attr.first_attr_of.Goals as goal
 
-pub loop-j-init : goal.loop-j-init
-loop-j-init g c h = search-begin (attrs_of (find (g.P.Page.tree c.args.p.now) c.args.n)) c.args.name.now
-
-pub loop-j-preserved : goal.loop-j-preserved
-loop-j-preserved g c h =
-    let f = find (g.P.Page.tree c.args.p.now) c.args.n in
-    let j = c.loop-j.j in
-    let l : j < length (attrs_of f) = omega (arith, count-is f c.attrs_of-j-end.result (c.attrs_of-j-end.ensures h)) in
-    let p = name-at f j l in
-    search-on (attrs_of f) c.args.name.now j (c.loop-j.invariant h) l (ap (same c.args.name.now) (sym p.1) ∙ (sym (c.is_of.ensures p.0) ∙ c.if-is_of.false))
-
-pub returns-then-is_of : goal.returns-then-is_of
-returns-then-is_of g c =
-    let t = g.P.Page.tree c.args.p.now in
-    let f = find t c.args.n in
-    let w = c.args.name.now in
-    let j = c.loop-j.j in
-    let e : has t c.args.n ≡ true → Some j ≡ first_index (attrs_of f) w = λ h.
-    let l : j < length (attrs_of f) = omega (arith, count-is f c.attrs_of-j-end.result (c.attrs_of-j-end.ensures h)) in
-    let p = name-at f j l in
-    search-here (attrs_of f) w j (c.loop-j.invariant h) l (ap (same w) (sym p.1) ∙ (sym (c.is_of.ensures p.0) ∙ c.if-is_of.true)) in
-    record { index = e; first = λ h. subst (First (attrs_of f) w) (sym (e h)) (first (attrs_of f) w) }
+as_it_is : (o : Option ℕ) → o ≡ option_map (λ x. x) o
+as_it_is None = refl
+as_it_is (Some x) = refl
 
 pub returns : goal.returns
 returns g c =
-    let t = g.P.Page.tree c.args.p.now in
-    let f = find t c.args.n in
+    let f = find (g.P.Page.tree c.args.p.now) c.args.n in
     let w = c.args.name.now in
-    let e : has t c.args.n ≡ true → None ≡ first_index (attrs_of f) w = λ h. search-end (attrs_of f) w c.loop-j.j (c.loop-j.invariant h) (omega (arith, count-is f c.attrs_of-j-end.result (c.attrs_of-j-end.ensures h))) in
-    record { index = e; first = λ h. subst (First (attrs_of f) w) (sym (e h)) (first (attrs_of f) w) }
+    let long : c.unwrap_or.result ≡ length (attrs_of f) = search (rules, count-is) in
+    let found = find_from_yields_List (λ j. same w (bytes_in (part_of f (Name j)))) _ _ c.find.result c.find.ensures.ran (YieldsList-from_range 0 c.unwrap_or.result (length (attrs_of f)) refl (omega arith)) (λ x b q k. search (rules, tests)) in
+    let e : c.find.result ≡ first_index (attrs_of f) w = as_it_is c.find.result ∙ (found ∙ first-found f w) in
+    record { index = e; first = subst (First (attrs_of f) w) (sym e) (first (attrs_of f) w) }

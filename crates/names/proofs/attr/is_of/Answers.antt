@@ -1,39 +1,11 @@
--- A turn compares one byte.
-use Rattle.std.proofs.Common.{sym, refl, ◌∙◌, arith}
-use Rattle.page.specs.Forest.{find, part_of}
-use Rattle.text.specs.Held.{held}
-use Rattle.text.proofs.Reading.{byte-is, length-is}
-use Rattle.names.proofs.Sames.{same_length, same-on, same-off, same_end}
+-- As many bytes, and the word at their front.
+use Rattle.std.proofs.Common.{◌∙◌, sym, arith}
+use Rattle.std.proofs.lemmas.Bool.{ne_eqb}
+use Rattle.names.proofs.Sames.{same-begins, same_length}
 use Rattle.names.proofs.attr.is_of.Goals as goal
 
-pub returns-then-len_of-word : goal.returns-then-len_of-word
-returns-then-len_of-word g c s =
-    let o = part_of (find (g.P.Page.tree c.args.p.now) c.args.n) c.args.part in
-    let xs = held (g.P.Page.tree c.args.p.now) c.args.n c.args.part in
-    sym (same_length c.args.word.now xs (λ e. c.if-len_of-word.true (length-is o c.len_of.result (c.len_of.ensures s) ∙ e)))
+pub returns-then-len-word : goal.returns-then-len-word
+returns-then-len-word g c = c.word_at.ensures ∙ same-begins c.args.word.now c.args.part.now (omega arith)
 
-pub loop-k-init : goal.loop-k-init
-loop-k-init g c s = refl
-
-pub returns-then-byte_of-b : goal.returns-then-byte_of-b
-returns-then-byte_of-b g c s =
-    let o = part_of (find (g.P.Page.tree c.args.p.now) c.args.n) c.args.part in
-    let xs = held (g.P.Page.tree c.args.p.now) c.args.n c.args.part in
-    let k = c.loop-k.k in
-    let e = length-is o c.len_of.result (c.len_of.ensures s) in
-    same-off c.args.word.now xs k (omega arith) (omega (arith, e)) (λ z. c.if-byte_of-b.true (byte-is o k c.byte_of.result c.byte_of.ensures (omega (arith, e)) ∙ z)) (c.loop-k.invariant s)
-
-pub loop-k-preserved : goal.loop-k-preserved
-loop-k-preserved g c s =
-    let o = part_of (find (g.P.Page.tree c.args.p.now) c.args.n) c.args.part in
-    let xs = held (g.P.Page.tree c.args.p.now) c.args.n c.args.part in
-    let k = c.loop-k.k in
-    let e = length-is o c.len_of.result (c.len_of.ensures s) in
-    same-on c.args.word.now xs k (omega arith) (omega (arith, e)) (sym (byte-is o k c.byte_of.result c.byte_of.ensures (omega (arith, e))) ∙ c.if-byte_of-b.false) (c.loop-k.invariant s)
-
-pub returns : goal.returns
-returns g c s =
-    let o = part_of (find (g.P.Page.tree c.args.p.now) c.args.n) c.args.part in
-    let xs = held (g.P.Page.tree c.args.p.now) c.args.n c.args.part in
-    let e = length-is o c.len_of.result (c.len_of.ensures s) in
-    same_end c.args.word.now xs c.loop-k.k (omega arith) (omega (arith, e)) (c.loop-k.invariant s)
+pub returns-else-len-word : goal.returns-else-len-word
+returns-else-len-word g c = ne_eqb _ _ c.if-len-word.false ∙ sym (same_length c.args.word.now c.args.part.now (λ e. c.if-len-word.false (c.len.ensures ∙ e)))

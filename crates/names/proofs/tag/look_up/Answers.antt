@@ -1,24 +1,21 @@
--- A turn tries one entry.
-use Rattle.std.proofs.Common.{sym, refl, ◌∙◌}
-use Rattle.page.specs.declared.kind.Part.TheVariants.{Content}
-use Rattle.text.specs.Held.{held}
-use Rattle.names.proofs.Sames.{letters, sought-on, sought-here, sought-end}
+-- The first entry that the part spells.
+use Rattle.std.proofs.Common.{◌≡◌, ap, ◌∙◌, rules, Bor, Option, Some, None, List, ℕ}
+use borrow.Author.Tests.{tests}
+use Rattle.std.specs.Option.{MatchOption, option_map}
+use Rattle.std.proofs.lemmas.Iterator.{YieldsList-from_slice}
+use Rattle.std.proofs.lemmas.Iterator.Search.{find_from_yields_List}
+use Rattle.names.specs.declared.tag.Tag.{Tag}
+use Rattle.names.specs.declared.tag.Tag.TheVariants.{Other}
+use Rattle.names.specs.Names.{same}
+use Rattle.names.proofs.Sames.{letters, tagged, sought-find}
 use Rattle.names.proofs.tag.look_up.Goals as goal
 
-pub loop-e-init : goal.loop-e-init
-loop-e-init g c s = refl
-
-pub returns-then-spells : goal.returns-then-spells
-returns-then-spells g c s =
-    let w = letters (held (g.P.Page.tree c.args.p.now) c.args.n Content) in
-    sought-here c.args.table.now w c.loop-e.e-index (c.loop-e.invariant s) _ c.loop-e-test.true (sym (c.spells.ensures s) ∙ c.if-spells.true)
-
-pub loop-e-preserved : goal.loop-e-preserved
-loop-e-preserved g c s =
-    let w = letters (held (g.P.Page.tree c.args.p.now) c.args.n Content) in
-    sought-on c.args.table.now w c.loop-e.e-index (c.loop-e.invariant s) _ c.loop-e-test.true (sym (c.spells.ensures s) ∙ c.if-spells.false)
+picked : (r : Option (Bor (Bor (List ℕ) × Tag))) (t : Tag) → MatchOption r (t ≡ Other) (λ x. t ≡ x.now.1) → t ≡ tagged (option_map (λ y. y.now) r)
+picked None t h = h
+picked (Some x) t h = h
 
 pub returns : goal.returns
-returns g c s =
-    let w = letters (held (g.P.Page.tree c.args.p.now) c.args.n Content) in
-    sought-end c.args.table.now w c.loop-e.e-index (c.loop-e.invariant s) c.loop-e-test.false
+returns g c =
+    let w = letters c.args.part.now in
+    let found = find_from_yields_List (λ e. same e.0.now w) _ _ c.find.result c.find.ensures.ran (YieldsList-from_slice c.args.table.now c.iter.ensures.rest) (λ x b q k. search (rules, tests)) in
+    picked c.find.result c.map_or.result (search rules) ∙ (ap tagged found ∙ sought-find c.args.table.now w)

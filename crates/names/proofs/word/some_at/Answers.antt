@@ -1,23 +1,13 @@
--- A turn tries one word.
-use Rattle.std.proofs.Common.{drop, sym, refl, ◌∙◌}
-use Rattle.text.specs.Held.{held}
-use Rattle.names.proofs.Occurs.{words-on, words-here, words-end}
+-- Some word stands there.
+use Rattle.std.proofs.Common.{drop, ◌∙◌, rules}
+use borrow.Author.Tests.{tests}
+use Rattle.std.proofs.lemmas.Iterator.{YieldsList-from_slice}
+use Rattle.std.proofs.lemmas.Iterator.Search.{any_from_yields_List}
+use Rattle.names.specs.Words.{begins}
+use Rattle.names.proofs.Occurs.{some-any}
 use Rattle.names.proofs.word.some_at.Goals as goal
 
-pub loop-word-init : goal.loop-word-init
-loop-word-init g c s = refl
-
-pub returns-then-word_at : goal.returns-then-word_at
-returns-then-word_at g c s =
-    let xs = held (g.P.Page.tree c.args.p.now) c.args.n c.args.part in
-    words-here c.args.words.now (drop c.args.at xs) c.loop-word.word-index (c.loop-word.invariant s) _ c.loop-word-test.true (sym (c.word_at.ensures s) ∙ c.if-word_at.true)
-
-pub loop-word-preserved : goal.loop-word-preserved
-loop-word-preserved g c s =
-    let xs = held (g.P.Page.tree c.args.p.now) c.args.n c.args.part in
-    words-on c.args.words.now (drop c.args.at xs) c.loop-word.word-index (c.loop-word.invariant s) _ c.loop-word-test.true (sym (c.word_at.ensures s) ∙ c.if-word_at.false)
-
 pub returns : goal.returns
-returns g c s =
-    let xs = held (g.P.Page.tree c.args.p.now) c.args.n c.args.part in
-    words-end c.args.words.now (drop c.args.at xs) c.loop-word.word-index (c.loop-word.invariant s) c.loop-word-test.false
+returns g c =
+    let v = drop c.args.at c.args.part.now in
+    any_from_yields_List (λ w. begins w.now v) _ _ _ c.any.ensures.ran (YieldsList-from_slice c.args.words.now c.iter.ensures.rest) (λ x b q k. search (rules, tests)) ∙ some-any c.args.words.now v

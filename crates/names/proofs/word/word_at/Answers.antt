@@ -1,43 +1,20 @@
--- A turn compares one byte.
-use Rattle.std.proofs.Common.{◌+◌, drop, sym, ap, ◌∙◌, arith}
+-- The word is compared byte by byte.
+use Rattle.std.proofs.Common.{◌-◌, refl, sym, ◌∙◌, length, rules, arith}
+use borrow.Author.Tests.{tests}
+use Rattle.std.proofs.lemmas.Bool.{lt-leb}
+use Rattle.std.proofs.lemmas.Iterator.{YieldsList-from_range, YieldsList-from_slice, YieldsList-from_zip}
+use Rattle.std.proofs.lemmas.Iterator.Search.{all_from_yields_List}
 use Rattle.std.proofs.lemmas.List.{length-drop}
-use Rattle.page.specs.Forest.{find, part_of}
-use Rattle.text.specs.Held.{held}
-use Rattle.text.proofs.Reading.{byte-is}
-use Rattle.names.specs.Words.{begins}
-use Rattle.names.proofs.Occurs.{begins-short, begins-on, begins-off, begins-end}
+use Rattle.names.proofs.Occurs.{is_at, begins-zip, begins-short}
 use Rattle.names.proofs.word.word_at.Goals as goal
 
-pub returns-then-len-at : goal.returns-then-len-at
-returns-then-len-at g c s =
-    let o = part_of (find (g.P.Page.tree c.args.p.now) c.args.n) c.args.part in
-    let xs = held (g.P.Page.tree c.args.p.now) c.args.n c.args.part in
-    sym (begins-short c.args.word.now (drop c.args.at xs) (simp length-drop (omega arith)))
+pub returns-then-word-saturating_sub : goal.returns-then-word-saturating_sub
+returns-then-word-saturating_sub g c =
+    let w = c.args.word.now in
+    let v = c.args.part.now in
+    let n = length v - c.args.at in
+    let road = YieldsList-from_zip {s = c.zip.result} (YieldsList-from_range c.args.at c.len-then-word-saturating_sub.result n c.zip.ensures.first (omega arith)) (YieldsList-from_slice w c.zip.ensures.second.0) in
+    all_from_yields_List (is_at v) c.all.new.self _ _ c.all.ensures.ran road (λ x b q k. search (rules, tests)) ∙ begins-zip w v c.args.at n refl (omega arith)
 
-pub loop-k-init : goal.loop-k-init
-loop-k-init g c s =
-    let o = part_of (find (g.P.Page.tree c.args.p.now) c.args.n) c.args.part in
-    let xs = held (g.P.Page.tree c.args.p.now) c.args.n c.args.part in
-    ap (λ n. begins c.args.word.now (drop n xs)) (omega arith)
-
-pub returns-then-byte_of-b : goal.returns-then-byte_of-b
-returns-then-byte_of-b g c s =
-    let o = part_of (find (g.P.Page.tree c.args.p.now) c.args.n) c.args.part in
-    let xs = held (g.P.Page.tree c.args.p.now) c.args.n c.args.part in
-    let k = c.loop-k.k in
-    let at = c.args.at in
-    begins-off c.args.word.now xs at k (c.loop-k.invariant s) (omega arith) (omega arith) (λ z. c.if-byte_of-b.true (byte-is o (at + k) c.byte_of.result c.byte_of.ensures (omega arith) ∙ z))
-
-pub loop-k-preserved : goal.loop-k-preserved
-loop-k-preserved g c s =
-    let o = part_of (find (g.P.Page.tree c.args.p.now) c.args.n) c.args.part in
-    let xs = held (g.P.Page.tree c.args.p.now) c.args.n c.args.part in
-    let k = c.loop-k.k in
-    let at = c.args.at in
-    begins-on c.args.word.now xs at k (c.loop-k.invariant s) (omega arith) (omega arith) (sym (byte-is o (at + k) c.byte_of.result c.byte_of.ensures (omega arith)) ∙ c.if-byte_of-b.false)
-
-pub returns : goal.returns
-returns g c s =
-    let o = part_of (find (g.P.Page.tree c.args.p.now) c.args.n) c.args.part in
-    let xs = held (g.P.Page.tree c.args.p.now) c.args.n c.args.part in
-    begins-end c.args.word.now xs c.args.at c.loop-k.k (c.loop-k.invariant s) (omega arith)
+pub returns-else-word-saturating_sub : goal.returns-else-word-saturating_sub
+returns-else-word-saturating_sub g c = lt-leb _ _ (omega arith) ∙ sym (begins-short c.args.word.now _ (simp length-drop (omega arith)))

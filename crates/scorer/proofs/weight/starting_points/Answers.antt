@@ -1,12 +1,8 @@
--- What is no node starts with nothing.
-use Rattle.std.proofs.Common.{◌≡◌, ◌+ℤ◌, sym, ap, ◌∙◌, arith, w32, to_z, of_z}
+-- Both parts are small.
+use Rattle.std.proofs.Common.{◌≡◌, ◌+ℤ◌, ap, ◌∙◌, arith, w32, to_z, of_z}
 use Rattle.std.proofs.lemmas.Int.{ints}
-use Rattle.page.proofs.Find.{find_absent}
-use Rattle.scorer.specs.Weight.{tag_points, starting_points}
+use Rattle.scorer.specs.Weight.{tag_points}
 use Rattle.scorer.proofs.weight.starting_points.Goals as goal
-
-pub returns-then-not-has : goal.returns-then-not-has
-returns-then-not-has g c = ap starting_points (sym (find_absent (g.P.Page.tree c.args.p.now) c.args.n (sym c.if-not-has.ensures)))
 
 pub returns : goal.returns
 returns g c =
@@ -14,5 +10,5 @@ returns g c =
     let b = c.get_class_weight.result in
     let back : to_z w32 (of_z w32 (to_z w32 (of_z w32 a) +ℤ to_z w32 (of_z w32 b))) ≡ a +ℤ b =
     omega (arith, ints, c.tag_points.ensures.low, c.tag_points.ensures.high, c.get_class_weight.ensures.low, c.get_class_weight.ensures.high) in
-    let tag = c.tag_points.ensures.value ∙ ap tag_points (c.tag_of.ensures (sym c.if-not-has.ensures)) in
+    let tag = c.tag_points.ensures.value ∙ ap tag_points c.tag_of.ensures in
     back ∙ (λ i. tag i +ℤ c.get_class_weight.ensures.value i)

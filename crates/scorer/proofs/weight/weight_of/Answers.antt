@@ -16,17 +16,18 @@ weighed (Some v) h = refl
 pub returns-in_default : goal.returns-in_default
 returns-in_default g c =
     let f = find (g.P.Page.tree c.args.p.now) c.args.n in
-    let e = value_none (attrs_of f) c.args.name.now (sym (c.first_attr_of.ensures.index c.requires) ∙ c.in_default.is) in
+    let e = value_none (attrs_of f) c.args.name.now (sym c.first_attr_of.ensures.index ∙ c.in_default.is) in
     record { value = sym (ap value_weight e); low = search rules; high = search rules }
 
 pub returns : goal.returns
 returns g c =
     let f = find (g.P.Page.tree c.args.p.now) c.args.n in
-    let v = value-part f c.args.name.now c.in-Some.j (sym (c.first_attr_of.ensures.index c.requires) ∙ c.in-Some.is) in
+    let v = value-part f c.args.name.now c.in-Some.j (sym c.first_attr_of.ensures.index ∙ c.in-Some.is) in
     let r = c.gained.result in
+    let value = c.new-value.ensures in
     let back : to_z w32 (of_z w32 r) ≡ r = omega (arith, ints, c.gained.ensures.low, c.gained.ensures.high) in
     record {
-      value = back ∙ (c.gained.ensures.value ∙ ((λ i. gain (c.has_word_of-positive.ensures.value v.1 i) (c.has_word_of-negative.ensures.value v.1 i)) ∙ (sym (weighed (part_of f (Value c.in-Some.j)) v.1) ∙ ap value_weight v.0)));
+      value = back ∙ (c.gained.ensures.value ∙ (((λ i. gain (c.has_word_of-positive.ensures.value i) (c.has_word_of-negative.ensures.value i)) ∙ ap (λ l. gain (has_word positive l) (has_word negative l)) value) ∙ (sym (weighed (part_of f (Value c.in-Some.j)) v.1) ∙ ap value_weight v.0)));
       low = omega (arith, ints, c.gained.ensures.low, c.gained.ensures.high);
       high = omega (arith, ints, c.gained.ensures.low, c.gained.ensures.high);
     }
