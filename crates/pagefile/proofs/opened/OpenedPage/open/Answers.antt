@@ -49,12 +49,9 @@ invariant_of-self c =
     record {
       accepted = accepts-table f yes;
       many = ap (λ k. k.nodes) s.counted ∙ sym (length-nodes f);
-      near = l.near;
-      level = l.level;
-      closed = l.closed;
-      within = l.within;
-      unended = l.unended;
-      tall = c.deepest-height.ensures ∙ height-deepest (table_of f) (file-accepted f yes);
+      parents = l.parents;
+      ends = l.ends;
+      tall = c.stored_height-height.ensures ∙ height-deepest (table_of f) (file-accepted f yes);
     }
 
 pub returns : goal.returns

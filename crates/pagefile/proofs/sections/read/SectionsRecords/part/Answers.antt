@@ -1,7 +1,6 @@
-use Rattle.std.proofs.Common.{◌≡◌, ◌+◌, ◌*◌, take, drop, ap, ◌∙◌, arith}
+use Rattle.std.proofs.Common.{◌≡◌, ◌+◌, ◌*◌, ◌-◌, take, drop, ap, ◌∙◌, arith}
 use Rattle.table.specs.declared.record.Section.TheVariants.{Bytes}
 use Rattle.pagefile.specs.File.{count_at}
-use Rattle.pagefile.proofs.Cut.{cut}
 use Rattle.pagefile.proofs.sections.read.SectionsRecords.part.Goals as goal
 
 pub returns : goal.returns
@@ -12,5 +11,5 @@ returns c =
     let base = 12 + 16 * k.nodes + 8 * k.attrs in
     let same : base ≡ count_at f Bytes + 4 = omega (arith, ap (λ n. n.nodes) s.counted, ap (λ n. n.attrs) s.counted) in
     let many = ap (λ n. n.bytes) s.counted in
-    cut f base k.bytes c.args.start c.args.len c.min-from.result c.min.result _ c.min-from.ensures c.min.ensures (omega arith)
-    ∙ (λ q. take c.args.len (drop c.args.start (take (many q) (drop (same q) f))))
+    let long : base + k.bytes - base ≡ k.bytes = omega arith in
+    c.clamped.ensures ∙ (λ q. take c.args.len (drop c.args.start (take ((long ∙ many) q) (drop (same q) f))))
