@@ -1,20 +1,10 @@
-ghost use Rattle.std.specs.Prelude.{◌≡◌, length};
+ghost use Rattle.std.specs.Prelude.{length};
 ghost use Rattle.linked.specs.Opened.{linked_tree};
 ghost use Rattle.linked.specs.Kept.{linked-kept};
 
 use crate::accepted::LinkedPage;
-use crate::stored::{stored_attrs, stored_byte, stored_kind, stored_len};
 use page::{Height, NodeKind, Page, Part};
-
-// A link as a number of any size.
-fn widen(link: Option<u16>) -> Option<usize>
-    ensures { result ≡ link }
-{
-    match link {
-        Some(n) => Some(n as usize),
-        None => None,
-    }
-}
+use table::{stored_attrs, stored_byte, stored_kind, stored_len};
 
 impl<'a> Page for LinkedPage<'a> {
     ghost tree = { linked_tree };
@@ -40,27 +30,15 @@ impl<'a> Page for LinkedPage<'a> {
     }
 
     fn parent_of(&self, n: usize) -> Option<usize> {
-        if n < self.records.nodes.len() {
-            widen(self.records.nodes[n].parent)
-        } else {
-            None
-        }
+        self.records.nodes.get(n)?.parent.map(usize::from)
     }
 
     fn first_child_of(&self, n: usize) -> Option<usize> {
-        if n < self.records.nodes.len() {
-            widen(self.records.nodes[n].first_child)
-        } else {
-            None
-        }
+        self.records.nodes.get(n)?.first_child.map(usize::from)
     }
 
     fn next_sibling_of(&self, n: usize) -> Option<usize> {
-        if n < self.records.nodes.len() {
-            widen(self.records.nodes[n].next_sibling)
-        } else {
-            None
-        }
+        self.records.nodes.get(n)?.next_sibling.map(usize::from)
     }
 
     fn attrs_of(&self, n: usize) -> usize {
