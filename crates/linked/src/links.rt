@@ -26,11 +26,7 @@ impl<'a> LinkedRecords<'a> {
         let depth = self.node(i).depth;
         let mut p = i - 1;
         while depth <= self.node(p).depth {
-            let x = self.nodes[p];
-            let Some(q) = x.parent else {
-                return None;
-            };
-            p = usize::from(q);
+            p = usize::from(self.nodes[p].parent?);
         }
         Some(p)
     }

@@ -78,8 +78,8 @@ module _ (t : Table) where
       go (inl z) = ap (parent_in (set ls p x)) z ∙ (ap (λ l. l.parent) (get_or-set_same ls p x no_link len) ∙ (is ∙ ap (parent_in ls) (sym z)))
       go (inr z) = parent-set_other ls p k x z
 
-  pub climb-ends : (i p : ℕ) (ls : List Link) → depth_at t p < depth_at t i → Climbed t i p ls → ParentOf t i p × ((k : ℕ) → k < i → EndOf t (i + 1) k (end_in ls k))
-  climb-ends i p ls d c = ((c.before, d, c.level), (λ k l. go k l (cases_order k p)))
+  pub climb-ends : (i p : ℕ) (ls : List Link) → depth_at t p < depth_at t i → Climbed t i p ls → (k : ℕ) → k < i → EndOf t (i + 1) k (end_in ls k)
+  climb-ends i p ls d c k l = go k l (cases_order k p)
     where
       go : (k : ℕ) → k < i → (k ≡ p) ⊎ ((k < p) ⊎ (p < k)) → EndOf t (i + 1) k (end_in ls k)
       go k l (inl x) = extend i k (end_in ls k) (λ z. subst (λ n. depth_at t n < depth_at t i) (sym x) d) (c.old k (omega arith))

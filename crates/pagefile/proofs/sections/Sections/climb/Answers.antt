@@ -58,13 +58,12 @@ loop-links-preserved c =
     let up = subst (ParentOf t p) (sym is) (c.loop-links.invariant.1 p low less) in
     (climb-more t i p c.from-p.result ls x len refl high up climbed, parents-kept t i p ls x len refl c.loop-links.invariant.1, simp length-set c.loop-links.invariant.2)
 
-pub returns : goal.returns
-returns c =
+pub returns-clause-down : goal.returns-clause-down
+returns-clause-down c =
     let t = table_of c.args.self.now.file.now in
     let i = c.args.i in
     let p = c.loop-links.p in
     let here = ap (λ x. x.depth) c.node-depth.ensures in
     let there = ap (λ x. x.depth) c.node.ensures in
     let low : depth_at t p < depth_at t i = omega (arith, here, there, c.loop-links-test.false) in
-    let r = climb-ends t i p c.loop-links.links low c.loop-links.invariant.0 in
-    record { parent = r.0; up = c.loop-links.invariant.1; down = r.1 }
+    climb-ends t i p c.loop-links.links low c.loop-links.invariant.0

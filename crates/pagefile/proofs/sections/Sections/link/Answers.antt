@@ -1,15 +1,10 @@
 use Rattle.std.proofs.Common.{◌≡◌, ◌<◌, length, None, refl, ap, subst, arith}
 use Rattle.pagefile.specs.File.{table_of}
 use Rattle.pagefile.specs.declared.link.Link.{Link}
-use Rattle.pagefile.specs.Links.{no_link, Parents, Ends}
+use Rattle.pagefile.specs.Links.{Ends}
 use Rattle.pagefile.proofs.Sized.{sized}
 use Rattle.pagefile.proofs.Linking.{parents-more, ends_more}
 use Rattle.pagefile.proofs.sections.Sections.link.Goals as goal
-
-pub loop-i-init : goal.loop-i-init
-loop-i-init c =
-    let t = table_of c.args.self.now.file.now in
-    ((λ k a b. absurd (omega arith)), ends_more t 0 c.args.links.now no_link (omega arith) refl (λ k l. absurd (omega arith)))
 
 pub loop-i-preserved : goal.loop-i-preserved
 loop-i-preserved c =
@@ -26,8 +21,8 @@ loop-i-preserved c =
     let len : i < length ls = omega arith in
     (parents-more t i ls x len e.parent e.up, ends_more t i ls x len refl e.down)
 
-pub returns : goal.returns
-returns c =
+pub returns-clause-ends : goal.returns-clause-ends
+returns-clause-ends c =
     let s = c.args.self.now in
     let f = s.file.now in
     let t = table_of f in
@@ -35,4 +30,4 @@ returns c =
     let i = c.loop-i.i in
     let some = (sized f s.laid).some_nodes in
     let e : i ≡ n = omega (arith, c.loop-i-test.false, ap (λ k. k.nodes) s.counted, c.loop-i.auto.i-end) in
-    record { parents = subst (λ m. Parents t m c.loop-i.links) e c.loop-i.invariant.0; ends = subst (λ m. Ends t m c.loop-i.links) e c.loop-i.invariant.1 }
+    subst (λ m. Ends t m c.loop-i.links) e c.loop-i.invariant.1
