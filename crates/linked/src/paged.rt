@@ -1,10 +1,21 @@
-ghost use Rattle.std.specs.Prelude.{length};
+ghost use Rattle.std.specs.Prelude.{◌≡◌, length};
 ghost use Rattle.linked.specs.Opened.{linked_tree};
 ghost use Rattle.linked.specs.Kept.{linked-kept};
 
 use crate::accepted::LinkedPage;
+use crate::records::LinkedRecords;
 use page::{Height, NodeKind, Page, Part};
-use table::{stored_attrs, stored_byte, stored_kind, stored_len};
+use table::Reader;
+
+impl<'a> LinkedPage<'a> {
+    fn reader(&self) -> Reader<'_, LinkedRecords<'a>>
+        ensures { result.records.now ≡ self.now.records }
+    {
+        Reader {
+            records: &self.records,
+        }
+    }
+}
 
 impl<'a> Page for LinkedPage<'a> {
     ghost tree = { linked_tree };
@@ -26,7 +37,7 @@ impl<'a> Page for LinkedPage<'a> {
     }
 
     fn kind_of(&self, n: usize) -> NodeKind {
-        stored_kind(&self.records, n)
+        self.reader().kind_of(n)
     }
 
     fn parent_of(&self, n: usize) -> Option<usize> {
@@ -42,15 +53,15 @@ impl<'a> Page for LinkedPage<'a> {
     }
 
     fn attrs_of(&self, n: usize) -> usize {
-        stored_attrs(&self.records, n)
+        self.reader().attrs_of(n)
     }
 
     fn len_of(&self, n: usize, part: Part) -> usize {
-        stored_len(&self.records, n, part)
+        self.reader().len_of(n, part)
     }
 
     fn byte_of(&self, n: usize, part: Part, i: usize) -> u8 {
-        stored_byte(&self.records, n, part, i)
+        self.reader().byte_of(n, part, i)
     }
 }
 

@@ -1,13 +1,25 @@
 // The answers of an opened page, from its records and links.
+ghost use Rattle.std.specs.Prelude.{◌≡◌};
 ghost use Rattle.pagefile.specs.Opened.{opened_tree};
 ghost use Rattle.pagefile.specs.Kept.{opened-kept};
 
 use crate::opened::OpenedPage;
+use crate::sections::Sections;
 use page::{Height, NodeKind, Page, Part};
-use table::{Records, stored_attrs, stored_byte, stored_kind, stored_len};
+use table::{Reader, Records};
 
 // The first node is the document.
 const ROOT: usize = 0;
+
+impl<'a> OpenedPage<'a> {
+    fn reader(&self) -> Reader<'_, Sections<'a>>
+        ensures { result.records.now ≡ self.now.sections }
+    {
+        Reader {
+            records: &self.sections,
+        }
+    }
+}
 
 impl<'a> Page for OpenedPage<'a> {
     ghost tree = { opened_tree };
@@ -29,7 +41,7 @@ impl<'a> Page for OpenedPage<'a> {
     }
 
     fn kind_of(&self, n: usize) -> NodeKind {
-        stored_kind(&self.sections, n)
+        self.reader().kind_of(n)
     }
 
     fn parent_of(&self, n: usize) -> Option<usize> {
@@ -67,15 +79,15 @@ impl<'a> Page for OpenedPage<'a> {
     }
 
     fn attrs_of(&self, n: usize) -> usize {
-        stored_attrs(&self.sections, n)
+        self.reader().attrs_of(n)
     }
 
     fn len_of(&self, n: usize, part: Part) -> usize {
-        stored_len(&self.sections, n, part)
+        self.reader().len_of(n, part)
     }
 
     fn byte_of(&self, n: usize, part: Part, i: usize) -> u8 {
-        stored_byte(&self.sections, n, part, i)
+        self.reader().byte_of(n, part, i)
     }
 }
 

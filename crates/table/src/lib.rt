@@ -13,4 +13,4 @@ pub use checks::{
 };
 pub use record::{AttrRecord, Check, NodeRecord, Section};
 pub use records::{Records, clamped};
-pub use stored::{stored_attrs, stored_byte, stored_height, stored_kind, stored_len};
+pub use stored::{Reader, stored_height};

@@ -11,6 +11,13 @@ use crate::record::{AttrRecord, NodeRecord};
 use crate::records::Records;
 use page::{NodeKind, Part};
 
+// Reads records that were accepted. Away from a node, a part or a byte that is there, it may answer anything.
+#[derive(Drop)]
+pub struct Reader<'a, R: Records> {
+    pub records: &'a R,
+    ghost accepted: { accepts (R.table records.now) ≡ true },
+}
+
 // The record of the attribute j of a node, or a blank one.
 fn attr_of<R: Records>(t: &R, x: NodeRecord, j: usize) -> AttrRecord
     ensures { j < x.attrs → result ≡ attr_at (R.table t.now) (x.first + j) }
@@ -22,51 +29,53 @@ fn attr_of<R: Records>(t: &R, x: NodeRecord, j: usize) -> AttrRecord
     }
 }
 
-// Where a part of the node n lies among the bytes: its offset and its length.
-fn place<R: Records>(t: &R, n: usize, part: Part) -> (usize, usize)
-    ensures { accepts (R.table t.now) ≡ true → is_some (part_of (find (tree_of (R.table t.now)) n) part) ≡ true → Lies (R.table t.now) n part result.0 result.1 }
-{
-    let x = t.node(n);
-    match part {
-        Part::Content => (x.start as usize, x.len as usize),
-        Part::Name(j) => {
-            let a = attr_of(t, x, j);
-            (a.start as usize, usize::from(a.name))
-        }
-        Part::Value(j) => {
-            let a = attr_of(t, x, j);
-            (a.start as usize + usize::from(a.name), usize::from(a.value))
+impl<'a, R: Records> Reader<'a, R> {
+    // Where a part of the node n lies among the bytes: its offset and its length.
+    fn place(&self, n: usize, part: Part) -> (usize, usize)
+        ensures { let t = R.table self.now.records.now in is_some (part_of (find (tree_of t) n) part) ≡ true → Lies t n part result.0 result.1 }
+    {
+        let x = self.records.node(n);
+        match part {
+            Part::Content => (x.start as usize, x.len as usize),
+            Part::Name(j) => {
+                let a = attr_of(self.records, x, j);
+                (a.start as usize, usize::from(a.name))
+            }
+            Part::Value(j) => {
+                let a = attr_of(self.records, x, j);
+                (a.start as usize + usize::from(a.name), usize::from(a.value))
+            }
         }
     }
-}
 
-// The kind of the node n. Accepted records have the code of a kind.
-pub fn stored_kind<R: Records>(t: &R, n: usize) -> NodeKind
-    ensures { accepts (R.table t.now) ≡ true → has (tree_of (R.table t.now)) n ≡ true → Some result ≡ kind_of (find (tree_of (R.table t.now)) n) }
-{
-    NodeKind::from_code(t.node(n).kind).unwrap_or(NodeKind::Element)
-}
+    // The kind of the node n, which has the code of one.
+    pub fn kind_of(&self, n: usize) -> NodeKind
+        ensures { let t = R.table self.now.records.now in has (tree_of t) n ≡ true → Some result ≡ kind_of (find (tree_of t) n) }
+    {
+        NodeKind::from_code(self.records.node(n).kind).unwrap_or(NodeKind::Element)
+    }
 
-// How many attributes the node n has.
-pub fn stored_attrs<R: Records>(t: &R, n: usize) -> usize
-    ensures { accepts (R.table t.now) ≡ true → has (tree_of (R.table t.now)) n ≡ true → Some result ≡ count_of (find (tree_of (R.table t.now)) n) }
-{
-    usize::from(t.node(n).attrs)
-}
+    // How many attributes the node n has.
+    pub fn attrs_of(&self, n: usize) -> usize
+        ensures { let t = R.table self.now.records.now in has (tree_of t) n ≡ true → Some result ≡ count_of (find (tree_of t) n) }
+    {
+        usize::from(self.records.node(n).attrs)
+    }
 
-// The length of a part of the node n.
-pub fn stored_len<R: Records>(t: &R, n: usize, part: Part) -> usize
-    ensures { accepts (R.table t.now) ≡ true → is_some (part_of (find (tree_of (R.table t.now)) n) part) ≡ true → Some result ≡ length_in (part_of (find (tree_of (R.table t.now)) n) part) }
-{
-    place(t, n, part).1
-}
+    // The length of a part of the node n.
+    pub fn len_of(&self, n: usize, part: Part) -> usize
+        ensures { let t = R.table self.now.records.now in is_some (part_of (find (tree_of t) n) part) ≡ true → Some result ≡ length_in (part_of (find (tree_of t) n) part) }
+    {
+        self.place(n, part).1
+    }
 
-// The byte i of a part of the node n.
-pub fn stored_byte<R: Records>(t: &R, n: usize, part: Part, i: usize) -> u8
-    ensures { accepts (R.table t.now) ≡ true → is_some (byte_in (part_of (find (tree_of (R.table t.now)) n) part) i) ≡ true → Some result ≡ byte_in (part_of (find (tree_of (R.table t.now)) n) part) i }
-{
-    let (start, len) = place(t, n, part);
-    t.part(start, len).get(i).copied().unwrap_or(0)
+    // The byte i of a part of the node n.
+    pub fn byte_of(&self, n: usize, part: Part, i: usize) -> u8
+        ensures { let t = R.table self.now.records.now in is_some (byte_in (part_of (find (tree_of t) n) part) i) ≡ true → Some result ≡ byte_in (part_of (find (tree_of t) n) part) i }
+    {
+        let (start, len) = self.place(n, part);
+        self.records.part(start, len).get(i).copied().unwrap_or(0)
+    }
 }
 
 // How deep the deepest node stands.
