@@ -1,5 +1,5 @@
 -- The last node above a depth, and the first at one.
-use Rattle.std.proofs.Common.{◌≡◌, ℕ, zero, suc, ◌<◌, ◌≤◌, eqb, ltb, ◌⊎◌, Some, None, sym, refl, ap, ◌∙◌, subst, inl, inr, arith}
+use Rattle.std.proofs.Common.{◌≡◌, ℕ, zero, suc, ◌+◌, ◌-◌, ◌<◌, ◌≤◌, eqb, ltb, ◌⊎◌, Some, None, sym, refl, ap, ◌∙◌, subst, inl, inr, arith}
 use Rattle.std.proofs.lemmas.Bool.{cases_lt, cases_eq, lt-ltb, le-ltb, eq-eqb, ne_eqb, cond-true, cond-false}
 use Rattle.table.specs.Table.{Table}
 use Rattle.table.specs.Links.{depth_at}
@@ -92,3 +92,16 @@ module _ (t : Table) where
 
   pub at-higher : (d j k : ℕ) → depth_at t j < d → first_at t d j (suc k) ≡ None
   at-higher d j k h = cond-false (ltb d (depth_at t j)) _ _ (le-ltb d (depth_at t j) (omega arith)) ∙ cond-false (eqb (depth_at t j) d) _ _ (ne_eqb (depth_at t j) d (λ e. omega arith))
+
+  -- what is first after a run of deeper nodes
+  pub first-none : (d k j : ℕ) → ((m : ℕ) → j ≤ m → m < j + k → d < depth_at t m) → first_at t d j k ≡ None
+  first-none d zero j h = refl
+  first-none d (suc k) j h = at-deeper d j k (h j (omega arith) (omega arith)) ∙ first-none d k (suc j) (λ m a b. h m (omega arith) (omega arith))
+
+  pub first-there : (d k j i : ℕ) → j ≤ i → i < j + k → ((m : ℕ) → j ≤ m → m < i → d < depth_at t m) → first_at t d j k ≡ first_at t d i (j + k - i)
+  first-there d zero j i a b h = absurd (omega arith)
+  first-there d (suc k) j i a b h = go (cases_eq j i) (λ (l : j < i). first-there d k (suc j) i (omega arith) (omega arith) (λ m x y. h m (omega arith) y))
+    where
+      go : (j ≡ i) ⊎ (j ≡ i → ⊥) → (j < i → first_at t d (suc j) k ≡ first_at t d i (suc j + k - i)) → first_at t d j (suc k) ≡ first_at t d i (j + suc k - i)
+      go (inl z) r = let e : suc k ≡ j + suc k - i = omega arith in λ q. first_at t d (z q) (e q)
+      go (inr z) r = let e : suc j + k - i ≡ j + suc k - i = omega arith in at-deeper d j k (h j (omega arith) (omega arith)) ∙ (r (omega arith) ∙ ap (first_at t d i) e)

@@ -9,7 +9,6 @@ mod open;
 mod paged;
 mod read;
 mod records;
-mod stored;
 
 pub use accepted::LinkedPage;
 pub use node::LinkedNode;

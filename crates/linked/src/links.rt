@@ -9,15 +9,12 @@ use table::Records;
 fn same_link(link: Option<u16>, meant: Option<usize>) -> bool
     ensures { result ≡ same_link link meant }
 {
-    match (link, meant) {
-        (None, None) => true,
-        (Some(m), Some(n)) => m as usize == n,
-        _ => false,
-    }
+    link.map(usize::from) == meant
 }
 
 impl<'a> LinkedRecords<'a> {
-    // The last node before i that is less deep, on the way up from the node before i.
+    // The last node before i that is less deep. It goes up by the links of the nodes before, and not over a range, so it is
+    // a `while`. That those links match is a `requires`: as a struct's fact it would need a count that each check moves on.
     fn parent_by_depth(&self, i: usize) -> Option<usize>
         requires before { each i (links_ok self.now.nodes.now (table_in self.now)) ≡ true }
         requires inside { i ≤ length self.now.nodes.now }
@@ -29,11 +26,7 @@ impl<'a> LinkedRecords<'a> {
         let depth = self.node(i).depth;
         let mut p = i - 1;
         while depth <= self.node(p).depth {
-            let x = self.nodes[p];
-            let Some(q) = x.parent else {
-                return None;
-            };
-            p = q as usize;
+            p = usize::from(self.nodes[p].parent?);
         }
         Some(p)
     }
@@ -56,16 +49,12 @@ impl<'a> LinkedRecords<'a> {
         ensures { result ≡ sibling_link (table_in self.now) i }
     {
         let depth = self.node(i).depth;
-        for j in i + 1..self.nodes.len() {
-            let here = self.node(j).depth;
-            if here == depth {
-                return Some(j);
-            }
-            if here < depth {
-                return None;
-            }
+        let j = (i + 1..self.nodes.len()).find(|j| self.node(*j).depth <= depth)?;
+        if self.node(j).depth == depth {
+            Some(j)
+        } else {
+            None
         }
-        None
     }
 
     // Whether the links of node i are those that the depths mean, where those before are.
@@ -75,12 +64,8 @@ impl<'a> LinkedRecords<'a> {
         ensures { result ≡ links_ok self.now.nodes.now (table_in self.now) i }
     {
         let x = self.nodes[i];
-        if !same_link(x.parent, self.parent_by_depth(i)) {
-            return false;
-        }
-        if !same_link(x.first_child, self.child_by_depth(i)) {
-            return false;
-        }
-        same_link(x.next_sibling, self.sibling_by_depth(i))
+        same_link(x.parent, self.parent_by_depth(i))
+            && same_link(x.first_child, self.child_by_depth(i))
+            && same_link(x.next_sibling, self.sibling_by_depth(i))
     }
 }

@@ -8,3 +8,20 @@ pub struct LinkedNode {
     pub first_child: Option<u16>,
     pub next_sibling: Option<u16>,
 }
+
+impl LinkedNode {
+    // The document alone.
+    pub const DOCUMENT: LinkedNode = LinkedNode {
+        node: NodeRecord {
+            kind: 0,
+            depth: 0,
+            attrs: 0,
+            first: 0,
+            start: 0,
+            len: 0,
+        },
+        parent: None,
+        first_child: None,
+        next_sibling: None,
+    };
+}

@@ -8,22 +8,10 @@ ghost use Rattle.linked.specs.Opened.{linked_tree, document_alone};
 use crate::accepted::LinkedPage;
 use crate::node::LinkedNode;
 use crate::records::LinkedRecords;
-use table::{Check, NodeRecord};
+use table::{Check, stored_height};
 
-// The record of the document alone.
-const DOCUMENT: [LinkedNode; 1] = [LinkedNode {
-    node: NodeRecord {
-        kind: 0,
-        depth: 0,
-        attrs: 0,
-        first: 0,
-        start: 0,
-        len: 0,
-    },
-    parent: None,
-    first_child: None,
-    next_sibling: None,
-}];
+// The records of the document alone.
+const DOCUMENT: [LinkedNode; 1] = [LinkedNode::DOCUMENT];
 
 impl<'a> LinkedPage<'a> {
     // A page that is the document alone.
@@ -46,7 +34,7 @@ impl<'a> LinkedPage<'a> {
         ensures page { MatchResult result (λ _. linked_tree self.new ≡ tree_of (table_in records.entry)) (λ _. self.new ≡ self.old) }
     {
         records.check()?;
-        let height = records.deepest();
+        let height = stored_height(&records);
         *self = LinkedPage { records, height };
         Ok(())
     }

@@ -3,16 +3,17 @@ ghost use Rattle.linked.specs.Opened.{linked_tree};
 ghost use Rattle.linked.specs.Kept.{linked-kept};
 
 use crate::accepted::LinkedPage;
-use crate::stored::{stored_attrs, stored_byte, stored_kind, stored_len};
+use crate::records::LinkedRecords;
 use page::{Height, NodeKind, Page, Part};
+use table::Reader;
 
-// A link as a number of any size.
-fn widen(link: Option<u16>) -> Option<usize>
-    ensures { result ≡ link }
-{
-    match link {
-        Some(n) => Some(n as usize),
-        None => None,
+impl<'a> LinkedPage<'a> {
+    fn reader(&self) -> Reader<'_, LinkedRecords<'a>>
+        ensures { result.records.now ≡ self.now.records }
+    {
+        Reader {
+            records: &self.records,
+        }
     }
 }
 
@@ -36,43 +37,31 @@ impl<'a> Page for LinkedPage<'a> {
     }
 
     fn kind_of(&self, n: usize) -> NodeKind {
-        stored_kind(&self.records, n)
+        self.reader().kind_of(n)
     }
 
     fn parent_of(&self, n: usize) -> Option<usize> {
-        if n < self.records.nodes.len() {
-            widen(self.records.nodes[n].parent)
-        } else {
-            None
-        }
+        self.records.nodes.get(n)?.parent.map(usize::from)
     }
 
     fn first_child_of(&self, n: usize) -> Option<usize> {
-        if n < self.records.nodes.len() {
-            widen(self.records.nodes[n].first_child)
-        } else {
-            None
-        }
+        self.records.nodes.get(n)?.first_child.map(usize::from)
     }
 
     fn next_sibling_of(&self, n: usize) -> Option<usize> {
-        if n < self.records.nodes.len() {
-            widen(self.records.nodes[n].next_sibling)
-        } else {
-            None
-        }
+        self.records.nodes.get(n)?.next_sibling.map(usize::from)
     }
 
     fn attrs_of(&self, n: usize) -> usize {
-        stored_attrs(&self.records, n)
+        self.reader().attrs_of(n)
     }
 
     fn len_of(&self, n: usize, part: Part) -> usize {
-        stored_len(&self.records, n, part)
+        self.reader().len_of(n, part)
     }
 
     fn byte_of(&self, n: usize, part: Part, i: usize) -> u8 {
-        stored_byte(&self.records, n, part, i)
+        self.reader().byte_of(n, part, i)
     }
 }
 

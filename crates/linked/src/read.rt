@@ -1,7 +1,7 @@
 ghost use Rattle.linked.specs.Records.{table_in};
 
 use crate::records::LinkedRecords;
-use table::{AttrRecord, NodeRecord, Records};
+use table::{AttrRecord, NodeRecord, Records, clamped};
 
 impl<'a> Records for LinkedRecords<'a> {
     ghost table = { table_in };
@@ -19,35 +19,14 @@ impl<'a> Records for LinkedRecords<'a> {
     }
 
     fn node(&self, i: usize) -> NodeRecord {
-        if i < self.nodes.len() {
-            self.nodes[i].node
-        } else {
-            NodeRecord {
-                kind: 0,
-                depth: 0,
-                attrs: 0,
-                first: 0,
-                start: 0,
-                len: 0,
-            }
-        }
+        self.nodes.get(i).map(|x| x.node).unwrap_or_default()
     }
 
     fn attr(&self, j: usize) -> AttrRecord {
-        if j < self.attrs.len() {
-            self.attrs[j]
-        } else {
-            AttrRecord {
-                name: 0,
-                value: 0,
-                start: 0,
-            }
-        }
+        self.attrs.get(j).copied().unwrap_or_default()
     }
 
     fn part(&self, start: usize, len: usize) -> &[u8] {
-        let from = start.min(self.bytes.len());
-        let end = from + len.min(self.bytes.len() - from);
-        &self.bytes[from..end]
+        clamped(self.bytes, start, len)
     }
 }

@@ -1,6 +1,5 @@
 pub mod Listed
 pub mod Sized
-pub mod Cut
 pub mod Accepting
 pub mod Written
 pub mod Reread

@@ -6,12 +6,12 @@ pub(crate) fn u16_at(file: &[u8], p: usize) -> u16
     requires { p + 2 ≤ length file.now }
     ensures { result ≡ u16_at file.now p }
 {
-    file[p] as u16 + 256 * file[p + 1] as u16
+    u16::from_le_bytes([file[p], file[p + 1]])
 }
 
 pub(crate) fn u32_at(file: &[u8], p: usize) -> u32
     requires { p + 4 ≤ length file.now }
     ensures { result ≡ u32_at file.now p }
 {
-    u16_at(file, p) as u32 + 65536 * u16_at(file, p + 2) as u32
+    u32::from_le_bytes([file[p], file[p + 1], file[p + 2], file[p + 3]])
 }

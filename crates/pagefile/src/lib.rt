@@ -4,6 +4,7 @@
 mod check;
 mod counts;
 mod fields;
+mod link;
 mod open;
 mod opened;
 mod paged;

@@ -8,9 +8,10 @@ ghost use Rattle.pagefile.specs.Opened.{opened_tree, document_alone, FileOf, NoF
 
 use crate::check::check;
 use crate::counts::Counts;
+use crate::link::Link;
 use crate::opened::OpenedPage;
 use crate::sections::Sections;
-use table::Check;
+use table::{Check, stored_height};
 
 // The file of the document alone: one node of 16 bytes, no attributes, no bytes.
 const DOCUMENT: &[u8; 28] = b"\x01\0\0\0\0\0\0\0\0\0\0\0\0\0\0\0\0\0\0\0\0\0\0\0\0\0\0\0";
@@ -27,8 +28,7 @@ impl<'a> OpenedPage<'a> {
         };
         OpenedPage {
             sections: Sections::over(DOCUMENT, counts),
-            parents: [0; 4096],
-            ends: [0; 4096],
+            links: [Link::BLANK; 4096],
             height: 0,
         }
     }
@@ -41,14 +41,12 @@ impl<'a> OpenedPage<'a> {
     {
         let counts = check(file)?;
         let sections = Sections::over(file, counts);
-        let mut parents = [0u16; 4096];
-        let mut ends = [0u16; 4096];
-        sections.link(&mut parents, &mut ends);
-        let height = sections.deepest();
+        let mut links = [Link::BLANK; 4096];
+        sections.link(&mut links);
+        let height = stored_height(&sections);
         *self = OpenedPage {
             sections,
-            parents,
-            ends,
+            links,
             height,
         };
         Ok(())

@@ -4,8 +4,9 @@ ghost use Rattle.page.specs.Forest.{height_of};
 ghost use Rattle.table.specs.Table.{tree_of};
 ghost use Rattle.table.specs.Checks.{accepts};
 ghost use Rattle.pagefile.specs.File.{table_of};
-ghost use Rattle.pagefile.specs.Links.{Near, Level, Closed, Within, Unended};
+ghost use Rattle.pagefile.specs.Links.{Parents, Ends};
 
+use crate::link::Link;
 use crate::sections::Sections;
 
 // A page file that was accepted. Each node's parent, the end of what stands under it, and the height are computed once,
@@ -13,15 +14,11 @@ use crate::sections::Sections;
 #[derive(Clone, Copy)]
 pub struct OpenedPage<'a> {
     pub(crate) sections: Sections<'a>,
-    pub(crate) parents: [u16; 4096],
-    pub(crate) ends: [u16; 4096],
+    pub(crate) links: [Link; 4096],
     pub(crate) height: usize,
     ghost accepted: { accepts (table_of sections.file.now) ≡ true },
     ghost many: { sections.counts.nodes ≡ length (table_of sections.file.now).nodes },
-    ghost near: { Near (table_of sections.file.now) sections.counts.nodes parents },
-    ghost level: { Level (table_of sections.file.now) sections.counts.nodes parents },
-    ghost closed: { Closed (table_of sections.file.now) sections.counts.nodes ends },
-    ghost within: { Within (table_of sections.file.now) sections.counts.nodes ends },
-    ghost unended: { Unended (table_of sections.file.now) sections.counts.nodes ends },
+    ghost parents: { Parents (table_of sections.file.now) sections.counts.nodes links },
+    ghost ends: { Ends (table_of sections.file.now) sections.counts.nodes links },
     ghost tall: { height ≡ height_of (tree_of (table_of sections.file.now)) },
 }

@@ -1,50 +1,22 @@
 // The answers of an opened page, from its records and links.
-ghost use Rattle.std.specs.Prelude.{◌≡◌, ◌+◌, ◌<◌, slice_index};
-ghost use Rattle.table.specs.Table.{kind_with, attr_at};
-ghost use Rattle.pagefile.specs.File.{table_of};
+ghost use Rattle.std.specs.Prelude.{◌≡◌};
 ghost use Rattle.pagefile.specs.Opened.{opened_tree};
 ghost use Rattle.pagefile.specs.Kept.{opened-kept};
 
 use crate::opened::OpenedPage;
+use crate::sections::Sections;
 use page::{Height, NodeKind, Page, Part};
-use table::{AttrRecord, NodeRecord, Records};
+use table::{Reader, Records};
 
 // The first node is the document.
 const ROOT: usize = 0;
 
-// The kind of a code of at most 4.
-fn kind_with(code: u8) -> NodeKind
-    ensures { result ≡ kind_with code }
-{
-    match code {
-        0 => NodeKind::Document,
-        1 => NodeKind::Doctype,
-        2 => NodeKind::Text,
-        3 => NodeKind::Comment,
-        _ => NodeKind::Element,
-    }
-}
-
-// The byte at an index, or 0 past the end.
-fn byte_at(bytes: &[u8], i: usize) -> u8
-    ensures { result ≡ slice_index bytes.now i }
-{
-    if i < bytes.len() { bytes[i] } else { 0 }
-}
-
 impl<'a> OpenedPage<'a> {
-    // The record of the attribute j of a node.
-    fn attr(&self, x: NodeRecord, j: usize) -> AttrRecord
-        ensures { j < x.attrs → result ≡ attr_at (table_of self.now.sections.file.now) (x.first + j) }
+    fn reader(&self) -> Reader<'_, Sections<'a>>
+        ensures { result.records.now ≡ self.now.sections }
     {
-        if j < x.attrs as usize {
-            self.sections.attr(x.first as usize + j)
-        } else {
-            AttrRecord {
-                name: 0,
-                value: 0,
-                start: 0,
-            }
+        Reader {
+            records: &self.sections,
         }
     }
 }
@@ -69,7 +41,7 @@ impl<'a> Page for OpenedPage<'a> {
     }
 
     fn kind_of(&self, n: usize) -> NodeKind {
-        kind_with(self.sections.node(n).kind)
+        self.reader().kind_of(n)
     }
 
     fn parent_of(&self, n: usize) -> Option<usize> {
@@ -77,7 +49,7 @@ impl<'a> Page for OpenedPage<'a> {
             return None;
         }
         if n < self.sections.counts.nodes {
-            Some(self.parents[n] as usize)
+            Some(usize::from(self.links[n].parent))
         } else {
             None
         }
@@ -98,10 +70,7 @@ impl<'a> Page for OpenedPage<'a> {
         if n >= self.sections.counts.nodes {
             return None;
         }
-        let end = self.ends[n] as usize;
-        if end == 0 {
-            return None;
-        }
+        let end = usize::from(self.links[n].end?);
         if self.sections.node(end).depth == self.sections.node(n).depth {
             Some(end)
         } else {
@@ -110,35 +79,15 @@ impl<'a> Page for OpenedPage<'a> {
     }
 
     fn attrs_of(&self, n: usize) -> usize {
-        self.sections.node(n).attrs as usize
+        self.reader().attrs_of(n)
     }
 
     fn len_of(&self, n: usize, part: Part) -> usize {
-        let x = self.sections.node(n);
-        match part {
-            Part::Content => x.len as usize,
-            Part::Name(j) => self.attr(x, j).name as usize,
-            Part::Value(j) => self.attr(x, j).value as usize,
-        }
+        self.reader().len_of(n, part)
     }
 
     fn byte_of(&self, n: usize, part: Part, i: usize) -> u8 {
-        let x = self.sections.node(n);
-        match part {
-            Part::Content => byte_at(self.sections.part(x.start as usize, x.len as usize), i),
-            Part::Name(j) => {
-                let a = self.attr(x, j);
-                byte_at(self.sections.part(a.start as usize, a.name as usize), i)
-            }
-            Part::Value(j) => {
-                let a = self.attr(x, j);
-                byte_at(
-                    self.sections
-                        .part(a.start as usize + a.name as usize, a.value as usize),
-                    i,
-                )
-            }
-        }
+        self.reader().byte_of(n, part, i)
     }
 }
 

@@ -12,3 +12,4 @@ pub mod Fitting
 pub mod Reading
 pub mod Deepest
 pub mod PartReading
+pub mod Blank

@@ -38,10 +38,6 @@ in-node i d x xs n e h = top (or_cases (eqb i n) _ (rw (parse-at i d x xs e) at 
 none_has : (n : ℕ) → has none n ≡ true → ⊥
 none_has n h = both_ways false refl h
 
--- the numbers of a parse
-Within : ℕ → List Row → ℕ → Type 0
-Within i xs n = (i ≤ n) × (n < i + length xs)
-
 pub parse-range : (xs : List Row) (i d n : ℕ) → has (parse i d xs) n ≡ true → (i ≤ n) × (n < i + length xs)
 parse-range [] i d n h = absurd (none_has n h)
 parse-range (x ∷ xs) i d n h = go (cases_order x.depth d) (parse-range xs (suc i) (suc d) n) (parse-range xs (suc i) d n)

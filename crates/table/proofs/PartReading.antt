@@ -1,12 +1,13 @@
--- The lengths and the bytes of the parts of accepted records.
+-- Where the parts of accepted records lie.
 use Rattle.std.proofs.Common.{◌≡◌, ℕ, zero, suc, ◌+◌, ◌<◌, true, false, List, [], ◌∷◌, length, get_or, is_some, Some, sym, refl, ap, ◌∙◌, arith}
 use Rattle.std.specs.List.{slice_get}
 use Rattle.std.proofs.lemmas.Bool.{both_ways, ltb-true}
 use Rattle.page.specs.declared.kind.Part.{Part}
 use Rattle.page.specs.declared.kind.Part.TheVariants.{Content, Name, Value}
-use Rattle.page.specs.Forest.{find, count_of, part_of, length_in, byte_in}
+use Rattle.page.specs.Forest.{find, count_of, part_of, byte_in}
 use Rattle.page.proofs.Parts.{has-name, has_value, part-has, byte-part}
 use Rattle.table.specs.Table.{Table, node_at, attr_at, tree_of}
+use Rattle.table.specs.Stored.{Lies}
 use Rattle.table.proofs.Accepted.{Accepted, laid}
 use Rattle.table.proofs.Tabulated.{length_part, length-attrs, attr-in}
 use Rattle.table.proofs.Reading.{found, inside, part-there, name-there, value_there}
@@ -35,15 +36,15 @@ module _ (t : Table) (acc : Accepted t) (n : ℕ) where
     pub value-inside : (j : ℕ) → is_some (part_of (find (tree_of t) n) (Value j)) ≡ true → j < (node_at t n).attrs
     value-inside j h = ltb-true j (node_at t n).attrs (sym (has_value (find (tree_of t) n) (node_at t n).attrs j counted) ∙ h)
 
-    pub content-length : length_in (part_of (find (tree_of t) n) Content) ≡ Some (node_at t n).len
-    content-length = ap length_in (part-there t acc n l Content) ∙ ap Some (length_part t acc (node_at t n).start (node_at t n).len (laid t n (acc.good n l).layout).bytes)
+    pub content-lies : Lies t n Content (node_at t n).start (node_at t n).len
+    content-lies = record { bytes = part-there t acc n l Content; long = length_part t acc (node_at t n).start (node_at t n).len (laid t n (acc.good n l).layout).bytes }
 
-    pub name-length : (j : ℕ) → j < (node_at t n).attrs → length_in (part_of (find (tree_of t) n) (Name j)) ≡ Some (attr_at t ((node_at t n).first + j)).name
-    name-length j h =
+    pub name-lies : (j : ℕ) → j < (node_at t n).attrs → let a = attr_at t ((node_at t n).first + j) in Lies t n (Name j) a.start a.name
+    name-lies j h =
         let a = attr_at t ((node_at t n).first + j) in
-        ap length_in (name-there t acc n l j h) ∙ ap Some (length_part t acc a.start a.name (omega (arith, attr-in t acc n l j h)))
+        record { bytes = name-there t acc n l j h; long = length_part t acc a.start a.name (omega (arith, attr-in t acc n l j h)) }
 
-    pub value-length : (j : ℕ) → j < (node_at t n).attrs → length_in (part_of (find (tree_of t) n) (Value j)) ≡ Some (attr_at t ((node_at t n).first + j)).value
-    value-length j h =
+    pub value-lies : (j : ℕ) → j < (node_at t n).attrs → let a = attr_at t ((node_at t n).first + j) in Lies t n (Value j) (a.start + a.name) a.value
+    value-lies j h =
         let a = attr_at t ((node_at t n).first + j) in
-        ap length_in (value_there t acc n l j h) ∙ ap Some (length_part t acc (a.start + a.name) a.value (attr-in t acc n l j h))
+        record { bytes = value_there t acc n l j h; long = length_part t acc (a.start + a.name) a.value (attr-in t acc n l j h) }

@@ -79,10 +79,6 @@ formed-low [] n h l p = absurd (omega arith)
 formed-low (x ∷ xs) zero h l p = absurd (omega arith)
 formed-low (x ∷ xs) (suc n) h l p = steps-at xs (reach x) n (form x xs h).next (omega arith)
 
-pub formed-root : (xs : List Row) → formed xs ≡ true → ((get_or xs 0 blank).depth ≡ 0) × (0 < length xs)
-formed-root [] h = absurd (both_ways false refl h)
-formed-root (x ∷ xs) h = ((form x xs h).root, omega arith)
-
 formed-step : (xs : List Row) (n : ℕ) → formed xs ≡ true → suc n < length xs → (get_or xs (suc n) blank).depth ≤ suc (get_or xs n blank).depth
 formed-step [] n h l = absurd (omega arith)
 formed-step (x ∷ xs) zero h l = omega (arith, steps_first xs (reach x) (form x xs h).next (omega arith), reach-most x)
@@ -115,7 +111,3 @@ parent-at xs ok n q l less lower f =
 pub parent-root : (xs : List Row) (n : ℕ) → formed xs ≡ true → n ≡ 0 → parent_in None (parse 0 0 xs) n ≡ None
 parent-root [] n h e = absurd (both_ways false refl h)
 parent-root (x ∷ xs) n h e = ap (λ t. parent_in None t n) (parse-at 0 0 x xs (form x xs h).root) ∙ cond-true (eqb 0 n) _ _ (eq-eqb 0 n (sym e))
-
-pub only-root : (xs : List Row) (n : ℕ) → formed xs ≡ true → n < length xs → (get_or xs n blank).depth ≤ 0 → n ≡ 0
-only-root xs zero h l e = refl
-only-root xs (suc n) h l e = absurd (let low = formed-low xs (suc n) h l (omega arith) in omega arith)

@@ -24,11 +24,6 @@ nth-attr t zero i j l = absurd (omega arith)
 nth-attr t (suc k) i zero l = let z : i ≡ i + 0 = omega arith in ap (λ m. Some (attr_of t m)) z
 nth-attr t (suc k) i (suc j) l = let z : suc i + j ≡ i + suc j = omega arith in nth-attr t k (suc i) j (omega arith) ∙ ap (λ m. Some (attr_of t m)) z
 
-pub nth-gone : (t : Table) (k i j : ℕ) → k ≤ j → slice_get (attrs_from t i k) j ≡ None
-nth-gone t zero i j l = refl
-nth-gone t (suc k) i zero l = absurd (omega arith)
-nth-gone t (suc k) i (suc j) l = nth-gone t k (suc i) j (omega arith)
-
 -- rows that are deeper are passed over
 skip-run : (xs : List Row) (d e j k : ℕ) → k + j ≡ e → e ≤ length xs → ((i : ℕ) → k ≤ i → i < e → d < (get_or xs i blank).depth) → parse k d (drop k xs) ≡ parse e d (drop e xs)
 skip-run xs d e zero k z l h = let same : k ≡ e = omega arith in ap (λ n. parse n d (drop n xs)) same
@@ -144,9 +139,3 @@ module _ (t : Table) (acc : Accepted t) where
 
     pub value_there : (j : ℕ) → j < (node_at t i).attrs → part_of (find (tree_of t) i) (Value j) ≡ Some (attr_of t ((node_at t i).first + j)).1
     value_there j h = part-there (Value j) ∙ ap value_in (nth-attr t (node_at t i).attrs (node_at t i).first j h)
-
-    pub name-gone : (j : ℕ) → (node_at t i).attrs ≤ j → part_of (find (tree_of t) i) (Name j) ≡ None
-    name-gone j h = part-there (Name j) ∙ ap name_in (nth-gone t (node_at t i).attrs (node_at t i).first j h)
-
-    pub value_gone : (j : ℕ) → (node_at t i).attrs ≤ j → part_of (find (tree_of t) i) (Value j) ≡ None
-    value_gone j h = part-there (Value j) ∙ ap value_in (nth-gone t (node_at t i).attrs (node_at t i).first j h)

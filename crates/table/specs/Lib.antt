@@ -4,3 +4,4 @@ pub mod Checks
 pub mod Tabulate
 pub mod Fits
 pub mod Links
+pub mod Stored

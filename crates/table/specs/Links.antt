@@ -1,5 +1,5 @@
 -- Where a node's parent and the end of what stands under it are, by the depths in document order.
-use Rattle.std.specs.Prelude.{◌≡◌, ℕ, ◌<◌, ◌≤◌, max, List, [], ◌∷◌}
+use Rattle.std.specs.Prelude.{◌≡◌, ℕ, ◌<◌, ◌≤◌, max, List, [], ◌∷◌, Option, None, Some}
 use Rattle.table.specs.declared.record.NodeRecord.{NodeRecord}
 use Rattle.table.specs.Table.{Table, node_at}
 
@@ -10,11 +10,11 @@ depth_at t i = (node_at t i).depth
 abbrev pub ParentOf : Table → ℕ → ℕ → Type 0
 ParentOf t k p = (p < k) × (depth_at t p < depth_at t k) × ((j : ℕ) → p < j → j < k → depth_at t k ≤ depth_at t j)
 
--- e is the first node after k, of the first n, that is not deeper than k, or 0 where none is
-abbrev pub EndOf : Table → ℕ → ℕ → ℕ → Type 0
-EndOf t n k e =
-    (e ≡ 0 → (j : ℕ) → k < j → j < n → depth_at t k < depth_at t j)
-    × (0 < e → (k < e) × (e < n) × (depth_at t e ≤ depth_at t k) × ((j : ℕ) → k < j → j < e → depth_at t k < depth_at t j))
+-- o is the first node after k, of the first n, that is not deeper than k, or none where none is
+abbrev pub EndOf : Table → ℕ → ℕ → Option ℕ → Type 0
+EndOf t n k o =
+    (o ≡ None → (j : ℕ) → k < j → j < n → depth_at t k < depth_at t j)
+    × ((e : ℕ) → o ≡ Some e → (k < e) × (e < n) × (depth_at t e ≤ depth_at t k) × ((j : ℕ) → k < j → j < e → depth_at t k < depth_at t j))
 
 -- how deep the deepest node stands
 abbrev pub deepest : List NodeRecord → ℕ

@@ -1,27 +1,31 @@
 // The checks of nodes, for records in any form. What stands before a node is read off the node before it, so each check is
 // local and the whole is linear.
-ghost use Rattle.std.specs.Prelude.{◌≡◌, ◌+◌, ◌^◌, ◌<◌, ◌≤◌, length};
+ghost use Rattle.std.specs.Prelude.{◌≡◌, ◌+◌, ◌^◌, ◌<◌, ◌≤◌, [], ◌∷◌, length};
+ghost use Rattle.table.specs.declared.record.Check.TheVariants.{Kind, Depth, Layout, WellFormed};
 ghost use Rattle.table.specs.Checks.{is_parent_code, kind_ok, depth_ok, attr_end, attr_start, attrs_before, bytes_before, attr_ok, layout_ok, attr_formed, formed_ok, ends_ok, each, answer, first_no, of_node, of_nodes, refused};
 
 use crate::record::{Check, NodeRecord};
 use crate::records::Records;
+use page::NodeKind;
 use utf8::well_formed;
 
 fn is_parent_code(kind: u8) -> bool
     ensures { result ≡ is_parent_code kind }
 {
-    kind == 0 || kind == 4
+    matches!(
+        NodeKind::from_code(kind),
+        Some(NodeKind::Document | NodeKind::Element)
+    )
 }
 
-// Kind 0 first and only there, at most 4.
+// The document first and only there, and each other code that of a kind.
 pub fn kind_ok<R: Records>(t: &R, i: usize) -> bool
     ensures { result ≡ kind_ok (R.table t.now) i }
 {
-    let kind = t.node(i).kind;
-    if i == 0 {
-        kind == 0
-    } else {
-        1 <= kind && kind <= 4
+    match NodeKind::from_code(t.node(i).kind) {
+        Some(NodeKind::Document) => i == 0,
+        Some(_) => i != 0,
+        None => false,
     }
 }
 
@@ -34,8 +38,7 @@ pub fn depth_ok<R: Records>(t: &R, i: usize) -> bool
         return depth == 0;
     }
     let before = t.node(i - 1);
-    1 <= depth
-        && depth <= 62
+    (1..=62).contains(&depth)
         && (depth <= before.depth || (depth == before.depth + 1 && is_parent_code(before.kind)))
 }
 
@@ -43,7 +46,7 @@ fn attr_end<R: Records>(t: &R, j: usize) -> usize
     ensures { result ≡ attr_end (R.table t.now) j }
 {
     let a = t.attr(j);
-    a.start as usize + a.name as usize + a.value as usize
+    a.start as usize + usize::from(a.name) + usize::from(a.value)
 }
 
 fn attr_start<R: Records>(t: &R, x: NodeRecord, k: usize) -> usize
@@ -64,7 +67,7 @@ fn attrs_before<R: Records>(t: &R, i: usize) -> usize
         return 0;
     }
     let x = t.node(i - 1);
-    x.first as usize + x.attrs as usize
+    x.first as usize + usize::from(x.attrs)
 }
 
 fn bytes_before<R: Records>(t: &R, i: usize) -> usize
@@ -74,7 +77,7 @@ fn bytes_before<R: Records>(t: &R, i: usize) -> usize
         return 0;
     }
     let x = t.node(i - 1);
-    attr_start(t, x, x.attrs as usize)
+    attr_start(t, x, usize::from(x.attrs))
 }
 
 fn attr_ok<R: Records>(t: &R, x: NodeRecord, k: usize) -> bool
@@ -88,12 +91,7 @@ fn attr_ok<R: Records>(t: &R, x: NodeRecord, k: usize) -> bool
 fn attrs_ok<R: Records>(t: &R, x: NodeRecord) -> bool
     ensures { result ≡ each x.attrs (attr_ok (R.table t.now) x) }
 {
-    for k in 0..x.attrs as usize {
-        if !attr_ok(t, x, k) {
-            return false;
-        }
-    }
-    true
+    (0..usize::from(x.attrs)).all(|k| attr_ok(t, x, k))
 }
 
 // Attributes on elements only, the document's content empty, attributes and bytes running on without gap, all inside.
@@ -101,44 +99,27 @@ pub fn layout_ok<R: Records>(t: &R, i: usize) -> bool
     ensures { result ≡ layout_ok (R.table t.now) i }
 {
     let x = t.node(i);
-    if x.attrs != 0 && x.kind != 4 {
-        return false;
-    }
-    if x.kind == 0 && x.len != 0 {
-        return false;
-    }
-    if x.first as usize != attrs_before(t, i) {
-        return false;
-    }
-    if t.attrs() < x.first as usize + x.attrs as usize {
-        return false;
-    }
-    if x.start as usize != bytes_before(t, i) {
-        return false;
-    }
-    if t.bytes() < x.start as usize + x.len as usize {
-        return false;
-    }
-    attrs_ok(t, x)
+    (x.attrs == 0 || x.kind == NodeKind::Element.code())
+        && (x.kind != NodeKind::Document.code() || x.len == 0)
+        && x.first as usize == attrs_before(t, i)
+        && x.first as usize + usize::from(x.attrs) <= t.attrs()
+        && x.start as usize == bytes_before(t, i)
+        && x.start as usize + x.len as usize <= t.bytes()
+        && attrs_ok(t, x)
 }
 
 fn attr_formed<R: Records>(t: &R, j: usize) -> bool
     ensures { result ≡ attr_formed (R.table t.now) j }
 {
     let a = t.attr(j);
-    well_formed(t.part(a.start as usize, a.name as usize))
-        && well_formed(t.part(a.start as usize + a.name as usize, a.value as usize))
+    well_formed(t.part(a.start as usize, usize::from(a.name)))
+        && well_formed(t.part(a.start as usize + usize::from(a.name), usize::from(a.value)))
 }
 
 fn attrs_formed<R: Records>(t: &R, x: NodeRecord) -> bool
     ensures { result ≡ each x.attrs (λ k. attr_formed (R.table t.now) (x.first + k)) }
 {
-    for k in 0..x.attrs as usize {
-        if !attr_formed(t, x.first as usize + k) {
-            return false;
-        }
-    }
-    true
+    (0..usize::from(x.attrs)).all(|k| attr_formed(t, x.first as usize + k))
 }
 
 // The content, and each name and value, is well-formed UTF-8.
@@ -156,9 +137,9 @@ pub fn ends_ok<R: Records>(t: &R, n: usize) -> bool
     attrs_before(t, n) == t.attrs() && bytes_before(t, n) == t.bytes()
 }
 
-// The checks of one node, in their order.
-pub fn check_node<R: Records>(t: &R, i: usize) -> Result<(), Check>
-    ensures { refused result ≡ first_no (answer (R.table t.now)) (of_node i) }
+// The checks of the kind and the depth of a node.
+pub fn check_place<R: Records>(t: &R, i: usize) -> Result<(), Check>
+    ensures { refused result ≡ first_no (answer (R.table t.now)) (Kind i ∷ Depth i ∷ []) }
 {
     if !kind_ok(t, i) {
         return Err(Check::Kind(i));
@@ -166,6 +147,13 @@ pub fn check_node<R: Records>(t: &R, i: usize) -> Result<(), Check>
     if !depth_ok(t, i) {
         return Err(Check::Depth(i));
     }
+    Ok(())
+}
+
+// The checks of what a node has: its attributes and its bytes.
+pub fn check_parts<R: Records>(t: &R, i: usize) -> Result<(), Check>
+    ensures { refused result ≡ first_no (answer (R.table t.now)) (Layout i ∷ WellFormed i ∷ []) }
+{
     if !layout_ok(t, i) {
         return Err(Check::Layout(i));
     }
@@ -173,6 +161,14 @@ pub fn check_node<R: Records>(t: &R, i: usize) -> Result<(), Check>
         return Err(Check::WellFormed(i));
     }
     Ok(())
+}
+
+// The checks of one node, in their order.
+pub fn check_node<R: Records>(t: &R, i: usize) -> Result<(), Check>
+    ensures { refused result ≡ first_no (answer (R.table t.now)) (of_node i) }
+{
+    check_place(t, i)?;
+    check_parts(t, i)
 }
 
 // The checks of every node, and the last one.

@@ -1,8 +1,9 @@
 // The records of a stored page, its sections, and the checks of opening.
 
 // One node of a stored page: where its attributes and its content lie.
-#[derive(Clone, Copy)]
+#[derive(Clone, Copy, Default)]
 pub struct NodeRecord {
+    // the code of the kind: records are filled by anybody, and opening refuses a number that is no code
     pub kind: u8,
     pub depth: u8,
     // how many attributes, and the index of the first
@@ -14,7 +15,7 @@ pub struct NodeRecord {
 }
 
 // One attribute: the lengths of its name and its value, which lie one after the other from an offset on.
-#[derive(Clone, Copy)]
+#[derive(Clone, Copy, Default)]
 pub struct AttrRecord {
     pub name: u16,
     pub value: u16,

@@ -1,5 +1,5 @@
 // Reading records, in whatever form they lie.
-ghost use Rattle.std.specs.Prelude.{◌≡◌, length};
+ghost use Rattle.std.specs.Prelude.{◌≡◌, length, take, drop};
 ghost use Rattle.table.specs.Table.{Table, node_at, attr_at, part};
 
 use crate::record::{AttrRecord, NodeRecord};
@@ -26,4 +26,12 @@ pub trait Records {
     // len of the bytes, from start on, as far as there are so many.
     fn part(&self, start: usize, len: usize) -> &[u8]
         ensures { result.now ≡ part (table self.now) start len };
+}
+
+// len of the bytes, from start on, as far as there are so many.
+pub fn clamped(bytes: &[u8], start: usize, len: usize) -> &[u8]
+    ensures { result.now ≡ take len (drop start bytes.now) }
+{
+    let rest = &bytes[start.min(bytes.len())..];
+    &rest[..len.min(rest.len())]
 }

@@ -1,6 +1,6 @@
 // The numbers of sections and refusals.
 ghost use Rattle.std.specs.Prelude.{◌≡◌};
-ghost use Rattle.table.specs.Checks.{section_number, number, record_of, least, most};
+ghost use Rattle.table.specs.Checks.{section_number, number, record_of, least, most, in_range};
 
 use crate::record::{Check, Section};
 
@@ -22,8 +22,7 @@ impl Section {
     {
         match self {
             Section::Nodes => 1,
-            Section::Attributes => 0,
-            Section::Bytes => 0,
+            Section::Attributes | Section::Bytes => 0,
         }
     }
 
@@ -37,6 +36,13 @@ impl Section {
             Section::Bytes => 131_072,
         }
     }
+
+    // Whether a section may have n records.
+    pub fn in_range(self, n: usize) -> bool
+        ensures { result ≡ in_range self n }
+    {
+        (self.least()..=self.most()).contains(&n)
+    }
 }
 
 impl Check {
@@ -45,15 +51,12 @@ impl Check {
         ensures { result ≡ number self }
     {
         match self {
-            Check::CountPresent(_) => 11,
+            Check::CountPresent(_) | Check::RecordsPresent(_) | Check::NothingFollows => 11,
             Check::CountInRange(_) => 12,
-            Check::RecordsPresent(_) => 11,
-            Check::NothingFollows => 11,
             Check::Kind(_) => 13,
             Check::Depth(_) => 14,
-            Check::Layout(_) => 15,
+            Check::Layout(_) | Check::SectionsEnd(_) => 15,
             Check::WellFormed(_) => 16,
-            Check::SectionsEnd(_) => 15,
         }
     }
 
@@ -62,15 +65,15 @@ impl Check {
         ensures { result ≡ record_of self }
     {
         match self {
-            Check::CountPresent(s) => s.number(),
-            Check::CountInRange(s) => s.number(),
-            Check::RecordsPresent(s) => s.number(),
+            Check::CountPresent(s) | Check::CountInRange(s) | Check::RecordsPresent(s) => {
+                s.number()
+            }
             Check::NothingFollows => Section::Bytes.number(),
-            Check::Kind(i) => i,
-            Check::Depth(i) => i,
-            Check::Layout(i) => i,
-            Check::WellFormed(i) => i,
-            Check::SectionsEnd(n) => n,
+            Check::Kind(i)
+            | Check::Depth(i)
+            | Check::Layout(i)
+            | Check::WellFormed(i)
+            | Check::SectionsEnd(i) => i,
         }
     }
 }

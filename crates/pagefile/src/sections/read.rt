@@ -4,7 +4,7 @@ ghost use Rattle.pagefile.specs.File.{node_in, attr_in, table_of};
 
 use super::Sections;
 use crate::fields::{u16_at, u32_at};
-use table::{AttrRecord, NodeRecord, Records};
+use table::{AttrRecord, NodeRecord, Records, clamped};
 
 impl<'a> Sections<'a> {
     fn node_at(&self, i: usize) -> NodeRecord
@@ -54,14 +54,7 @@ impl<'a> Records for Sections<'a> {
         if i < self.counts.nodes {
             self.node_at(i)
         } else {
-            NodeRecord {
-                kind: 0,
-                depth: 0,
-                attrs: 0,
-                first: 0,
-                start: 0,
-                len: 0,
-            }
+            NodeRecord::default()
         }
     }
 
@@ -69,18 +62,12 @@ impl<'a> Records for Sections<'a> {
         if j < self.counts.attrs {
             self.attr_at(j)
         } else {
-            AttrRecord {
-                name: 0,
-                value: 0,
-                start: 0,
-            }
+            AttrRecord::default()
         }
     }
 
     fn part(&self, start: usize, len: usize) -> &[u8] {
-        let from = start.min(self.counts.bytes);
-        let end = from + len.min(self.counts.bytes - from);
         let base = 12 + 16 * self.counts.nodes + 8 * self.counts.attrs;
-        &self.file[base + from..base + end]
+        clamped(&self.file[base..base + self.counts.bytes], start, len)
     }
 }

@@ -2,14 +2,8 @@ use Rattle.std.proofs.Common.{◌≡◌, ◌+◌, ◌-◌, [], sym, ap, ◌∙�
 use Rattle.std.proofs.lemmas.Result.{err_from_is_err_and}
 use Rattle.table.specs.declared.record.Check.TheVariants.{SectionsEnd}
 use Rattle.table.specs.Checks.{answer, first_no, of_node, of_nodes}
-use Rattle.table.proofs.Asked.{of-next, of-last, no-next, no-here, stays, goes_on}
+use Rattle.table.proofs.Asked.{of-next, of-last, no-here, stays, goes_on}
 use Rattle.table.proofs.checks.check_nodes.Goals as goal
-
-pub loop-i-init : goal.loop-i-init
-loop-i-init g c =
-    let n = c.nodes-n.result in
-    let z : n - 0 ≡ n = omega arith in
-    ap (λ k. first_no (answer (g.R.Records.table c.args.t.now)) (of_nodes 0 k)) (sym z)
 
 pub loop-i-preserved : goal.loop-i-preserved
 loop-i-preserved g c =
@@ -34,10 +28,3 @@ returns-then-not-ends_ok g c =
     let n = c.nodes-n.result in
     let e : c.loop-i.i ≡ n = omega (arith, c.loop-i-test.false) in
     sym (ap (λ k. first_no ok (of_nodes 0 k)) (sym c.nodes-n.ensures) ∙ (c.loop-i.invariant ∙ (ap (λ k. first_no ok (of_nodes k (n - k))) e ∙ (ap (first_no ok) (of-last n) ∙ no-here ok (SectionsEnd n) [] (sym c.ends_ok.ensures ∙ c.if-not-ends_ok.true)))))
-
-pub returns : goal.returns
-returns g c =
-    let ok = answer (g.R.Records.table c.args.t.now) in
-    let n = c.nodes-n.result in
-    let e : c.loop-i.i ≡ n = omega (arith, c.loop-i-test.false) in
-    sym (ap (λ k. first_no ok (of_nodes 0 k)) (sym c.nodes-n.ensures) ∙ (c.loop-i.invariant ∙ (ap (λ k. first_no ok (of_nodes k (n - k))) e ∙ (ap (first_no ok) (of-last n) ∙ no-next ok (SectionsEnd n) [] (sym c.ends_ok.ensures ∙ c.if-not-ends_ok.false)))))

@@ -15,4 +15,4 @@ pub invariant_of-self : goal.invariant_of-self
 invariant_of-self c =
     let r = c.args.records in
     let a = accepted-linked r.nodes.now r.attrs.now r.bytes.now (sym c.in_ok-check.ensures) in
-    record { accepted = a.0; linked = a.1; tall = c.deepest-height.ensures ∙ height-deepest (table_in r) (accepted (table_in r) a.0) }
+    record { accepted = a.0; linked = a.1; tall = c.stored_height-height.ensures ∙ height-deepest (table_in r) (accepted (table_in r) a.0) }

@@ -1,12 +1,14 @@
-use Rattle.std.proofs.Common.{◌≡◌, ℕ, ◌<◌, true, List, ◌∷◌, length, get_or, replicate, sym, refl, ap, ◌∙◌, subst, arith}
+use Rattle.std.proofs.Common.{◌≡◌, ℕ, true, List, ◌∷◌, length, replicate, None, sym, refl, ap, ◌∙◌, subst, arith}
 use Rattle.std.proofs.lemmas.List.{get_or-replicate}
+use Rattle.std.proofs.lemmas.Option.{none-some}
 use Rattle.page.specs.Forest.{height_of}
 use Rattle.table.specs.declared.record.Section.TheVariants.{Nodes}
 use Rattle.table.specs.Table.{Table, tree_of}
+use Rattle.table.specs.Links.{EndOf}
 use Rattle.table.specs.Checks.{granted, accepts}
 use Rattle.pagefile.specs.File.{u16_at, u32_at, count, counts_of, table_of}
 use Rattle.pagefile.specs.Opening.{answer, of_sections}
-use Rattle.pagefile.specs.Links.{Closed, Within}
+use Rattle.pagefile.specs.Links.{no_link, end_in, Ends}
 use Rattle.pagefile.specs.Opened.{document_alone}
 use Rattle.pagefile.proofs.opened.OpenedPage.new.Goals as goal
 
@@ -39,14 +41,10 @@ unfolding u16_at u32_at
 alone = refl
 
 -- one node has no end
-no_end : (n : ℕ) → n ≡ 1 → (k : ℕ) → k < n → get_or {A = ℕ} (replicate 4096 0) k 0 ≡ 0
-no_end n e k l = get_or-replicate 4096 k 0 0 (omega arith)
-
-unclosed : (t : Table) (n : ℕ) → n ≡ 1 → Closed t n (replicate 4096 0)
-unclosed t n e k h = absurd (omega (arith, no_end n e k h.0, h.1))
-
-empty-within : (t : Table) (n : ℕ) → n ≡ 1 → Within t n (replicate 4096 0)
-empty-within t n e k j h = absurd (omega (arith, no_end n e k h.0, h.2))
+no-ends : (t : Table) (n : ℕ) → n ≡ 1 → Ends t n (replicate 4096 no_link)
+no-ends t n e k l =
+    let z : end_in (replicate 4096 no_link) k ≡ None = ap (λ x. x.end) (get_or-replicate 4096 k no_link no_link (omega arith)) in
+    subst (EndOf t n k) (sym z) ((λ y j a b. absurd (omega arith)), (λ d y. absurd (none-some d y)))
 
 pub over-requires : goal.over-requires
 over-requires c = (counted, laid)
@@ -60,11 +58,8 @@ invariant_of-result c =
     record {
       accepted = subst (λ (f : List ℕ). accepts (table_of f) ≡ true) (sym e) accepted;
       many = n ∙ sym (ap (λ f. length (table_of f).nodes) e ∙ single);
-      near = λ k h. absurd (let l = h.0 in let m = h.1 in omega arith);
-      level = λ k j h. absurd (let l = h.0 in let m = h.1 in omega arith);
-      closed = unclosed t s.counts.nodes n;
-      within = empty-within t s.counts.nodes n;
-      unended = λ k j h. absurd (let l = h.1 in let m = h.2 in omega arith);
+      parents = λ k a b. absurd (omega arith);
+      ends = no-ends t s.counts.nodes n;
       tall = sym (ap (λ f. height_of (tree_of (table_of f))) e ∙ ap height_of alone);
     }
 

@@ -1,4 +1,4 @@
-use Rattle.std.proofs.Common.{◌≡◌, ℕ, true, List, Some, None, sym, refl, ap, ◌∙◌, subst, arith}
+use Rattle.std.proofs.Common.{◌≡◌, ℕ, true, List, Some, None, sym, ap, ◌∙◌, subst, arith}
 use Rattle.std.proofs.lemmas.Result.{err_from_is_err_and}
 use Rattle.table.specs.declared.record.Check.{Check}
 use Rattle.table.specs.Table.{tree_of}
@@ -26,12 +26,10 @@ file-of f b h =
     let r = accepted-file f b h in
     record { fits = r.0; written = r.1; only = λ s fit e. sym (ap (λ l. tree_of (table_of l)) e ∙ (encoded-tree s fit).1) }
 
-pub returns-in_err-counts : goal.returns-in_err-counts
-returns-in_err-counts c =
-    let f = c.args.file.now in
+pub returns-in_err-counts-clause-exactly : goal.returns-in_err-counts-clause-exactly
+returns-in_err-counts-clause-exactly c =
     let p = err_from_is_err_and c.from_residual.result c.from_residual.ensures.1 in
-    let v = c.in_err-counts.ensures.refused in
-    rw (p.1, p.2) (record { verdict = v; page = refl; exactly = none-fits f c.in_err-counts.field-0.0 v })
+    rw p.1 (none-fits c.args.file.now c.in_err-counts.field-0.0 c.in_err-counts.ensures.refused)
 
 pub link-requires : goal.link-requires
 link-requires c =
@@ -49,17 +47,13 @@ invariant_of-self c =
     record {
       accepted = accepts-table f yes;
       many = ap (λ k. k.nodes) s.counted ∙ sym (length-nodes f);
-      near = l.near;
-      level = l.level;
-      closed = l.closed;
-      within = l.within;
-      unended = l.unended;
-      tall = c.deepest-height.ensures ∙ height-deepest (table_of f) (file-accepted f yes);
+      parents = l.parents;
+      ends = l.ends;
+      tall = c.stored_height-height.ensures ∙ height-deepest (table_of f) (file-accepted f yes);
     }
 
-pub returns : goal.returns
-returns c =
+pub returns-clause-exactly : goal.returns-clause-exactly
+returns-clause-exactly c =
     let f = c.args.file.now in
-    let v = c.in_ok-counts.ensures.refused in
     let same : tree_of (table_of c.over-sections.result.file.now) ≡ tree_of (table_of f) = ap (λ l. tree_of (table_of l)) c.over-sections.ensures in
-    record { verdict = v; page = same; exactly = subst (FileOf f) (sym same) (file-of f (λ i. (c.type_inv.file i).fits) (sym v)) }
+    subst (FileOf f) (sym same) (file-of f (λ i. (c.type_inv.file i).fits) (sym c.in_ok-counts.ensures.refused))

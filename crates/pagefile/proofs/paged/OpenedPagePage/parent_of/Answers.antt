@@ -1,6 +1,7 @@
-use Rattle.std.proofs.Common.{◌<◌, get_or, sym, arith}
+use Rattle.std.proofs.Common.{◌<◌, Some, sym, ap, ◌∙◌, arith}
 use Rattle.table.proofs.Accepted.{accepted}
 use Rattle.pagefile.specs.File.{table_of}
+use Rattle.pagefile.specs.Links.{parent_in}
 use Rattle.table.proofs.Reading.{parent-first, parent-gone, parent-there}
 use Rattle.pagefile.proofs.paged.OpenedPagePage.parent_of.Goals as goal
 
@@ -18,8 +19,8 @@ returns-then-n-self c h =
     let a = accepted t p.accepted in
     let n = c.args.n in
     let some : 0 < n = (let z = c.if-n-eq-ROOT.false in omega arith) in
-    let near = p.near n (some, c.if-n-self.true) in
-    sym (parent-there t a n (get_or p.parents n 0) (omega (arith, c.if-n-self.true, p.many)) near.0 near.1 (λ j b e. p.level n j (some, c.if-n-self.true, b, e)))
+    let up = p.parents n some c.if-n-self.true in
+    ap Some c.from.ensures ∙ sym (parent-there t a n (parent_in p.links n) (omega (arith, c.if-n-self.true, p.many)) up.0 up.1 up.2)
 
 pub returns-else-n-self : goal.returns-else-n-self
 returns-else-n-self c h =

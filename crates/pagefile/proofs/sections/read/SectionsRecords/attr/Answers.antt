@@ -1,6 +1,7 @@
 use Rattle.std.proofs.Common.{sym, ap, ◌∙◌, arith}
 use Rattle.table.specs.declared.record.Section.TheVariants.{Attributes}
 use Rattle.table.specs.Table.{no_attr}
+use Rattle.table.proofs.Blank.{blank-attr}
 use Rattle.pagefile.specs.File.{attr_in, count}
 use Rattle.pagefile.proofs.Listed.{get_first, past-listed}
 use Rattle.pagefile.proofs.sections.read.SectionsRecords.attr.Goals as goal
@@ -15,4 +16,4 @@ pub returns-else-j-self : goal.returns-else-j-self
 returns-else-j-self c =
     let s = c.args.self.now in
     let f = s.file.now in
-    sym (past-listed (attr_in f) (count f Attributes) 0 c.args.j no_attr (omega (arith, c.if-j-self.false, ap (λ k. k.attrs) s.counted)))
+    blank-attr c.default.result c.default.ensures ∙ sym (past-listed (attr_in f) (count f Attributes) 0 c.args.j no_attr (omega (arith, c.if-j-self.false, ap (λ k. k.attrs) s.counted)))
