@@ -26,7 +26,7 @@ impl<'a> Store<'a> {
         // each length fits its field by the room that is asked, so the casts lose nothing and no conversion can fail
         self.nodes.push(LinkedNode {
             node: NodeRecord {
-                kind: kind.code(),
+                kind: u8::from(kind),
                 depth,
                 attrs: 0,
                 first: self.attrs.used as u32,

@@ -13,8 +13,8 @@ fn is_parent_code(kind: u8) -> bool
     ensures { result ≡ is_parent_code kind }
 {
     matches!(
-        NodeKind::from_code(kind),
-        Some(NodeKind::Document | NodeKind::Element)
+        NodeKind::try_from(kind),
+        Ok(NodeKind::Document | NodeKind::Element)
     )
 }
 
@@ -22,10 +22,10 @@ fn is_parent_code(kind: u8) -> bool
 pub fn kind_ok<R: Records>(t: &R, i: usize) -> bool
     ensures { result ≡ kind_ok (R.table t.now) i }
 {
-    match NodeKind::from_code(t.node(i).kind) {
-        Some(NodeKind::Document) => i == 0,
-        Some(_) => i != 0,
-        None => false,
+    match NodeKind::try_from(t.node(i).kind) {
+        Ok(NodeKind::Document) => i == 0,
+        Ok(_) => i != 0,
+        Err(_) => false,
     }
 }
 
@@ -99,8 +99,8 @@ pub fn layout_ok<R: Records>(t: &R, i: usize) -> bool
     ensures { result ≡ layout_ok (R.table t.now) i }
 {
     let x = t.node(i);
-    (x.attrs == 0 || x.kind == NodeKind::Element.code())
-        && (x.kind != NodeKind::Document.code() || x.len == 0)
+    (x.attrs == 0 || x.kind == u8::from(NodeKind::Element))
+        && (x.kind != u8::from(NodeKind::Document) || x.len == 0)
         && x.first as usize == attrs_before(t, i)
         && x.first as usize + usize::from(x.attrs) <= t.attrs()
         && x.start as usize == bytes_before(t, i)

@@ -52,7 +52,7 @@ impl<'a, R: Records> Reader<'a, R> {
     pub fn kind_of(&self, n: usize) -> NodeKind
         ensures { let t = R.table self.now.records.now in has (tree_of t) n ≡ true → Some result ≡ kind_of (find (tree_of t) n) }
     {
-        NodeKind::from_code(self.records.node(n).kind).unwrap_or(NodeKind::Element)
+        NodeKind::try_from(self.records.node(n).kind).unwrap_or(NodeKind::Element)
     }
 
     // How many attributes the node n has.

@@ -1,4 +1,6 @@
 use Rattle.std.proofs.Common.{◌≡◌, ℕ, Bool, true, false, cond, eqb, Some, None, unwrap_or, Option, sym, refl, ap, ◌∙◌}
+use Rattle.std.specs.Option.{ok_or}
+use Rattle.std.specs.Result.{result_unwrap_or}
 use Rattle.page.specs.declared.kind.NodeKind.{NodeKind}
 use Rattle.page.specs.declared.kind.NodeKind.TheVariants.{Element}
 use Rattle.page.specs.Kinds.{coded}
@@ -19,9 +21,13 @@ last false = refl
 with : (k : ℕ) → unwrap_or (coded k) Element ≡ kind_with k
 with k = chosen (eqb k 0) _ _ _ (chosen (eqb k 1) _ _ _ (chosen (eqb k 2) _ _ _ (chosen (eqb k 3) _ _ _ (last (eqb k 4)))))
 
+read : {E : Type 0} (o : Option NodeKind) (e : E) → result_unwrap_or (ok_or o e) Element ≡ unwrap_or o Element
+read None e = refl
+read (Some k) e = refl
+
 pub returns : goal.returns
 returns g c h =
     let t = g.R.Records.table c.args.self.now.records.now in
     let a = accepted t c.args.self.now.accepted in
-    let is = c.unwrap_or.ensures ∙ (ap (λ o. unwrap_or o Element) c.from_code.ensures.kind ∙ (with c.node.result.kind ∙ ap (λ x. kind_with x.kind) c.node.ensures)) in
+    let is = c.unwrap_or.ensures ∙ (ap (λ o. result_unwrap_or o Element) c.try_from.ensures.kind ∙ (read (coded c.node.result.kind) _ ∙ with c.node.result.kind ∙ ap (λ x. kind_with x.kind) c.node.ensures)) in
     ap Some is ∙ sym (ap kind_of (found t a c.args.n (inside t a c.args.n h)))
