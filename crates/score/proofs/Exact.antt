@@ -1,6 +1,7 @@
 -- One exact score above another by more than both distances: over naturals, which is what a kind's arithmetic starts from, and its negation. Assumes nothing.
-use Rattle.std.proofs.Common.{◌≡◌, ℕ, ◌+◌, ◌*◌, ◌^◌, ◌<◌, ◌≤◌, Bool, true, false, not, T, ℤ, pos, ◌+ℤ◌, ◌-ℤ◌, ◌*ℤ◌, neg_ℤ, nat_abs, ◌≤ℤ◌, ◌<ℤ◌, ap, ◌∙◌, subst, mul-le-mul_right, add-mul, zero-mul, arith}
+use Rattle.std.proofs.Common.{◌≡◌, ℕ, ◌+◌, ◌*◌, ◌^◌, ◌<◌, ◌≤◌, ℤ, pos, ◌+ℤ◌, ◌-ℤ◌, ◌*ℤ◌, neg_ℤ, nat_abs, ◌≤ℤ◌, ◌<ℤ◌, ap, ◌∙◌, subst, mul-le-mul_right, add-mul, zero-mul, arith}
 use borrow.Author.Differences.{up, down, lt_out, le_out, at_most_in, sum_is_lem, neg_is, product_is}
+use lib.Dec.{not_T}
 use lib.Signed.{lt_z, lt_z_yes, lt_z_no}
 use Rattle.score.specs.declared.points.Points.{Points}
 use Rattle.score.specs.Ranges.{integer}
@@ -59,11 +60,7 @@ over-less j k p q h o =
 
 -- ---- not above is at most
 not-under : (x y : ℤ) → (x <ℤ y → ⊥) → y ≤ℤ x
-not-under x y h = lt_z_no (go (lt_z x y) (λ t. h (lt_z_yes t)))
-  where
-    go : (b : Bool) → (T b → ⊥) → T (not b)
-    go true f = f tt
-    go false f = tt
+not-under x y h = lt_z_no (not_T (lt_z x y) (λ t. h (lt_z_yes t)))
 
 pub at_most : (k : ℕ) (p q : Points) → (Above k p q → ⊥) → AtMost k p q
 unfolding Above AtMost

@@ -16,7 +16,7 @@ impl Points {
         ensures { result ≡ integer v }
     {
         Points {
-            h: 2 * v as i32,
+            h: 2 * i32::from(v),
             t: 1,
             l: 0,
         }
