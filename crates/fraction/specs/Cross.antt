@@ -4,8 +4,9 @@ use Rattle.std.proofs.Common.{sym, ap, ◌∙◌, mul_comm, mul_assoc, lt_of_mul
 use borrow.Author.Differences.{up, down, lt_T, lt_not, product_is}
 use Rattle.score.specs.declared.points.Points.{Points}
 use Rattle.score.specs.Exact.{exact}
-use Rattle.score.specs.Laws.{Order}
-use Rattle.score.proofs.Exact.{margin, Over}
+use Rattle.score.specs.Laws.{Order, Distance}
+use Rattle.score.proofs.Ranges.{range-out}
+use Rattle.score.proofs.Exact.{margin, Over, over}
 use Rattle.score.proofs.Fractions.{Compares, exceeds-by, order-by}
 use Rattle.fraction.specs.declared.Fraction.{Fraction}
 use Rattle.fraction.specs.Fractions.{fraction, divisor, greater}
@@ -49,8 +50,11 @@ doubled a b c d t u p q e f h =
     let twice : (x y z : ℕ) → z ≡ 2 * y → x * z ≡ 2 * (x * y) = λ x y z g. ap (λ n. x * n) g ∙ sym (mul_assoc x 2 y) ∙ ap (λ n. n * y) (mul_comm x 2) ∙ mul_assoc 2 x y in
     omega (arith, h, twice a t p e, twice b u q f, twice c u q f, twice d t p e)
 
-pub exceeds-over : (p q : Points) → 1 ≤ p.t → 1 ≤ q.t → Over 0 p q → T (greater (fraction p) (fraction q))
+exceeds-over : (p q : Points) → 1 ≤ p.t → 1 ≤ q.t → Over 0 p q → T (greater (fraction p) (fraction q))
 exceeds-over p q P Q h =
     exceeds-by greater plus less divisor compares (fraction p) (fraction q)
     (doubled (up (exact q)) (down (exact p)) (up (exact p)) (down (exact q)) p.t q.t (divisor (fraction p)) (divisor (fraction q)) (divisor-is p.t P) (divisor-is q.t Q)
     (cancelled (up (exact q)) (down (exact p)) (up (exact p)) (down (exact q)) p.t q.t (margin 0 q * p.t) (margin 0 p * q.t) h))
+
+pub distance : Distance 0 fraction greater
+distance p q i j a = exceeds-over p q (range-out p i).some (range-out q j).some (over 0 p q a)

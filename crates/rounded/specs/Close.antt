@@ -7,8 +7,9 @@ use Rattle.std.specs.Float.Ieee.Exact.{HasValue}
 use Rattle.std.specs.Float.{float_is_finite}
 use Rattle.score.specs.declared.points.Points.{Points}
 use Rattle.score.specs.Exact.{exact}
-use Rattle.score.proofs.Ranges.{InRange}
-use Rattle.score.proofs.Exact.{margin, Over}
+use Rattle.score.specs.Laws.{Distance}
+use Rattle.score.proofs.Ranges.{InRange, range-out}
+use Rattle.score.proofs.Exact.{margin, Over, over, over-less}
 use Rattle.rounded.specs.Roundeds.{rounded, greater, zero as nought}
 use Rattle.rounded.specs.Errors.{OffBy}
 use Rattle.rounded.specs.ValuesLemmas.{below-zero}
@@ -102,7 +103,7 @@ chosen x h = go (float_is_finite x) h
     go true t = refl
     go false t = absurd t
 
-pub exceeds-over : (p q : Points) → InRange p → InRange q → Over 1 p q → T (greater (rounded p) (rounded q))
+exceeds-over : (p q : Points) → InRange p → InRange q → Over 1 p q → T (greater (rounded p) (rounded q))
 exceeds-over p q i j b =
     let x = settled p i in
     let y = settled q j in
@@ -115,3 +116,7 @@ exceeds-over p q i j b =
     (apart (plus-of xs x.size) (less-of xs x.size) (plus-of ys y.size) (less-of ys y.size) p.t q.t
     (up (exact p)) (down (exact p)) (margin 1 p) (up (exact q)) (down (exact q)) (margin 1 q) N (2 ^ 23) (2 ^ 22) (lit< tt)
     b (close p x.size x.over x.off).1 (close q y.size y.over y.off).0)
+
+-- with every step of at least 1
+pub distance : (k : ℕ) → 1 ≤ k → Distance k rounded greater
+distance k h p q i j a = exceeds-over p q (range-out p i) (range-out q j) (over-less 1 k p q h (over k p q a))
