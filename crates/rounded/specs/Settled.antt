@@ -1,6 +1,7 @@
 -- What the rounded kind settles: a finite value, and how far it is from the exact score. N is 2 ^ 149, so that values are counted in units of 1 / N. Assumes nothing.
-use Rattle.std.specs.Prelude.{◌≡◌, ℕ, ◌+◌, ◌-◌, ◌*◌, ◌^◌, ◌<◌, ◌≤◌, Bool, true, false, cond, not, T, ltb, pos, nat_lt, unsigned_abs, refl, Float}
-use Rattle.std.proofs.Common.{sym, ap, ◌∙◌, subst, mul-one, one-mul, mul-le-mul, mul-le-mul_left, arith, ltb→lt, nltb→le, lit<, lit≤}
+use Rattle.std.specs.Prelude.{◌≡◌, ℕ, ◌+◌, ◌*◌, ◌^◌, ◌<◌, ◌≤◌, Bool, false, T, ltb, pos, nat_lt, unsigned_abs, refl, Float}
+use Rattle.std.proofs.Common.{sym, ap, ◌∙◌, subst, mul-one, one-mul, mul-le-mul, mul-le-mul_left, arith, lit<, lit≤}
+use Rattle.std.proofs.lemmas.Bool.Decides.{nat_tests}
 use Rattle.std.specs.Float.Ieee.{unlike, round, of_int, of_bits, sub, mul, div}
 use Rattle.std.specs.Float.Ieee.Exact.{HasValue}
 use Rattle.std.specs.Float.Ieee.Scale.{grid}
@@ -20,34 +21,25 @@ N = 2 ^ 149
 first_small : (g t l : ℕ) → 1 ≤ t → t ≤ 131072 → l < 2 ^ 23 → Near g (l * N) t → g < 2 ^ 174
 first_small g t l T t' l' h =
     let a = h.0 in
-    let b : g * 1 ≤ g * t = mul-le-mul_left g T in
-    let c : g * 1 ≡ g = mul-one g in
-    omega arith
+    let b = mul-le-mul_left g T in
+    grind arith
 
 apart-le : (d b : ℕ) → apart d b ≤ d + b
-apart-le d b = go (nat_lt d b)
-  where
-    go : (o : Bool) → cond o (b - d) (d - b) ≤ d + b
-    go true = omega arith
-    go false = omega arith
+apart-le d b = grind arith
 
 second-small : (g M : ℕ) → M < 2 ^ 175 → Near g M 1 → g < 2 ^ 177
-second-small g M m h = let a = h.0 in let c : g * 1 ≡ g = mul-one g in omega arith
+second-small g M m h = let a = h.0 in grind arith
 
 third-small : (g H k : ℕ) → H < 2 ^ 21 → k < 2 ^ 177 → Near g (H * k) 2 → g < 2 ^ 277
 third-small g H k a b h =
     let x = h.0 in
     let a' : H ≤ 2 ^ 21 = omega arith in
     let b' : k ≤ 2 ^ 177 = omega arith in
-    let c : H * k ≤ 2 ^ 21 * 2 ^ 177 = mul-le-mul a' b' in
+    let c = mul-le-mul a' b' in
     omega arith
 
 rest_is : (d b : ℕ) → Rest (nat_lt d b) (apart d b) b d
-rest_is d b = go (nat_lt d b) (ltb→lt d b) (nltb→le d b)
-  where
-    go : (o : Bool) → (T o → d < b) → (T (not o) → b ≤ d) → Rest o (cond o (b - d) (d - b)) b d
-    go true h k = let x = h tt in omega arith
-    go false h k = let x = k tt in omega arith
+rest_is d b = grind (arith, nat_tests)
 
 -- ---- the literals
 one-is : literal.one ≡ one

@@ -1,5 +1,5 @@
 -- One exact score above another by more than both distances: over naturals, which is what a kind's arithmetic starts from, and its negation. Assumes nothing.
-use Rattle.std.proofs.Common.{◌≡◌, ℕ, ◌+◌, ◌*◌, ◌^◌, ◌<◌, ◌≤◌, ℤ, pos, ◌+ℤ◌, ◌-ℤ◌, ◌*ℤ◌, neg_ℤ, nat_abs, ◌≤ℤ◌, ◌<ℤ◌, ap, ◌∙◌, subst, mul-le-mul_right, add-mul, zero-mul, arith}
+use Rattle.std.proofs.Common.{◌≡◌, ℕ, ◌+◌, ◌*◌, ◌^◌, ◌<◌, ◌≤◌, ℤ, pos, ◌+ℤ◌, ◌-ℤ◌, ◌*ℤ◌, neg_ℤ, nat_abs, ◌≤ℤ◌, ◌<ℤ◌, ap, ◌∙◌, subst, mul-le-mul_right, zero-mul, arith}
 use borrow.Author.Differences.{up, down, lt_out, le_out, at_most_in, sum_is_lem, neg_is, product_is}
 use lib.Dec.{not_T}
 use lib.Signed.{lt_z, lt_z_yes, lt_z_no}
@@ -24,8 +24,8 @@ plus-is x d t =
     let y = x *ℤ pos (2 ^ 22) in
     let z = y +ℤ pos d in
     let e : up z + down x * 2 ^ 22 ≡ down z + up x * 2 ^ 22 + d = omega (arith, sum_is_lem y (pos d), (product_is x (pos (2 ^ 22))).0, (product_is x (pos (2 ^ 22))).1) in
-    let f = simp add-mul at (ap (λ (n : ℕ). n * t) e) in
-    omega (arith, f, (product_is z (pos t)).0, (product_is z (pos t)).1)
+    let f = ap (λ (n : ℕ). n * t) e in
+    grind (arith, product_is z (pos t))
 
 -- (x * 2 ^ 22 - d) * t
 minus_is : (x : ℤ) (d t : ℕ) → up ((x *ℤ pos (2 ^ 22) -ℤ pos d) *ℤ pos t) + down x * 2 ^ 22 * t + d * t ≡ down ((x *ℤ pos (2 ^ 22) -ℤ pos d) *ℤ pos t) + up x * 2 ^ 22 * t
@@ -33,8 +33,8 @@ minus_is x d t =
     let y = x *ℤ pos (2 ^ 22) in
     let z = y -ℤ pos d in
     let e : up z + down x * 2 ^ 22 + d ≡ down z + up x * 2 ^ 22 = omega (arith, sum_is_lem y (neg_ℤ (pos d)), (neg_is (pos d)).0, (neg_is (pos d)).1, (product_is x (pos (2 ^ 22))).0, (product_is x (pos (2 ^ 22))).1) in
-    let f = simp add-mul at (ap (λ (n : ℕ). n * t) e) in
-    omega (arith, f, (product_is z (pos t)).0, (product_is z (pos t)).1)
+    let f = ap (λ (n : ℕ). n * t) e in
+    grind (arith, product_is z (pos t))
 
 pub over : (k : ℕ) (p q : Points) → Above k p q → Over k p q
 unfolding Above
