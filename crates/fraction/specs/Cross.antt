@@ -1,7 +1,8 @@
 -- The fraction kind compares by cross multiplication, and so keeps its order, and its distance with step 0. Assumes nothing.
 use Rattle.std.specs.Prelude.{◌≡◌, ℕ, ◌+◌, ◌*◌, ◌^◌, ◌<◌, ◌≤◌, max, not, T, ℤ, pos, ◌*ℤ◌, int_lt}
-use Rattle.std.proofs.Common.{sym, ap, ◌∙◌, mul_comm, mul_assoc, lt_of_mul-lt-mul_right, arith}
-use borrow.Author.Differences.{up, down, lt_T, lt_not, product_is}
+use Rattle.std.proofs.Common.{arith}
+use Rattle.std.proofs.lemmas.Int.{ints}
+use borrow.Author.Differences.{up, down, product_is}
 use Rattle.score.specs.declared.points.Points.{Points}
 use Rattle.score.specs.Exact.{exact}
 use Rattle.score.specs.Laws.{Order, Distance}
@@ -25,10 +26,10 @@ compares = record {
 }
   where
     above : (x y : ℤ) (p q : ℕ) → T (int_lt (y *ℤ pos p) (x *ℤ pos q)) → up y * p + down x * q < up x * q + down y * p
-    above x y p q t = omega (arith, lt_T (y *ℤ pos p) (x *ℤ pos q) t, (product_is y (pos p)).0, (product_is y (pos p)).1, (product_is x (pos q)).0, (product_is x (pos q)).1)
+    above x y p q t = grind (arith, ints, product_is y (pos p), product_is x (pos q))
 
     at_most : (x y : ℤ) (p q : ℕ) → T (not (int_lt (y *ℤ pos p) (x *ℤ pos q))) → up x * q + down y * p ≤ up y * p + down x * q
-    at_most x y p q t = omega (arith, lt_not (y *ℤ pos p) (x *ℤ pos q) t, (product_is y (pos p)).0, (product_is y (pos p)).1, (product_is x (pos q)).0, (product_is x (pos q)).1)
+    at_most x y p q t = grind (arith, ints, product_is y (pos p), product_is x (pos q))
 
 pub order : Order greater
 order = order-by greater plus less divisor compares

@@ -1,7 +1,8 @@
 -- The rounded score is off the exact one by at most |h| (t + l) / (2t * 2 ^ 22), and so one exceeds another whose exact score is below by more than both. Assumes nothing.
-use Rattle.std.specs.Prelude.{◌≡◌, ℕ, suc, ◌+◌, ◌*◌, ◌^◌, ◌<◌, ◌≤◌, Bool, true, false, cond, T, ℤ, pos, negsuc, ◌-ℤ◌, ◌*ℤ◌, neg_ℤ, unsigned_abs, Float}
+use Rattle.std.specs.Prelude.{◌≡◌, ℕ, suc, ◌+◌, ◌*◌, ◌^◌, ◌<◌, ◌≤◌, Bool, true, false, cond, T, ℤ, pos, negsuc, ◌-ℤ◌, ◌*ℤ◌, unsigned_abs, Float}
 use Rattle.std.proofs.Common.{sym, ap, subst, mul-le-mul_right, mul-lt-mul_of_pos_right, lt_of_mul-lt-mul_right, arith, lit<}
-use borrow.Author.Differences.{up, down, sum_is_lem, neg_is, product_is}
+use Rattle.std.proofs.lemmas.Int.{ints}
+use borrow.Author.Differences.{up, down, product_is}
 use Rattle.std.specs.Float.Ieee.{unlike}
 use Rattle.std.specs.Float.Ieee.Exact.{HasValue}
 use Rattle.std.specs.Float.{float_is_finite}
@@ -22,7 +23,7 @@ Apart false u d x y = u + y ≡ d + x
 Apart true u d x y = u + x ≡ d + y
 
 gap_is : (t l : ℕ) → up (pos t -ℤ pos l) + l ≡ down (pos t -ℤ pos l) + t
-gap_is t l = omega (arith, sum_is_lem (pos t) (neg_ℤ (pos l)), (neg_is (pos l)).0, (neg_is (pos l)).1)
+gap_is t l = omega (arith, ints)
 
 exact-is : (h : ℤ) (t l : ℕ) → let e = h *ℤ (pos t -ℤ pos l) in Apart (below-zero h) (up e) (down e) (unsigned_abs h * t) (unsigned_abs h * l)
 exact-is (pos n) t l = let f = ap (λ (z : ℕ). z * n) (gap_is t l) in grind (arith, product_is (pos n) (pos t -ℤ pos l))

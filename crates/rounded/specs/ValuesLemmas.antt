@@ -1,7 +1,7 @@
 -- The operations on floats by the fractions that their operands equal. Assumes nothing.
-use Rattle.std.specs.Prelude.{◌≡◌, ℕ, suc, ◌-◌, ◌*◌, ◌^◌, ◌<◌, ◌≤◌, Bool, true, false, cond, not, T, ℤ, pos, negsuc, nat_lt, unsigned_abs, refl, Float}
-use Rattle.std.proofs.Common.{sym, ap, ◌∙◌, subst, true≢false, mul_comm, one-mul, mul-one, mul-pos, mul-lt-mul_of_pos_right, lt_of_mul-lt-mul_right, arith, ltb→lt, nltb→le, lit<, pow_pos}
-use Rattle.std.proofs.lemmas.Bool.{ne_eqb}
+use Rattle.std.specs.Prelude.{◌≡◌, ℕ, suc, ◌-◌, ◌*◌, ◌^◌, ◌<◌, Bool, true, false, cond, ℤ, pos, negsuc, nat_lt, unsigned_abs, refl, Float}
+use Rattle.std.proofs.Common.{sym, ap, ◌∙◌, subst, true≢false, mul_comm, one-mul, mul-one, mul-pos, mul-lt-mul_of_pos_right, lt_of_mul-lt-mul_right, arith, lit<, pow_pos}
+use Rattle.std.proofs.lemmas.Bool.{ne_eqb, ltb_from_iff, ltb-true, lt-ltb}
 use Rattle.std.proofs.Math.Nat.{mul-sub}
 use Rattle.std.specs.Float.{nan, inf, fin, binary32}
 use Rattle.std.specs.Float.Ieee.{unlike, up, down, round, sum, sub, mul, div, of_int}
@@ -67,22 +67,13 @@ abbrev pub apart : ℕ → ℕ → ℕ
 apart d b = cond (nat_lt d b) (b - d) (d - b)
 
 less-same : (A B C b d : ℕ) → 0 < C → 0 < d → A ≡ C → B * d ≡ b * C → nat_lt A B ≡ nat_lt d b
-less-same A B C b d P D e f = go (nat_lt A B) (nat_lt d b) (ltb→lt A B) (nltb→le A B) (ltb→lt d b) (nltb→le d b)
+less-same A B C b d P D e f = ltb_from_iff ((λ t. forth (ltb-true A B t)), (λ h. lt-ltb A B (back h)))
   where
     forth : A < B → d < b
     forth h = let x : A * d < B * d = mul-lt-mul_of_pos_right h D in lt_of_mul-lt-mul_right C (grind arith)
 
     back : d < b → A < B
     back h = let x : d * C < b * C = mul-lt-mul_of_pos_right h P in lt_of_mul-lt-mul_right d (grind arith)
-
-    clash : {P : Type 0} {x y : ℕ} → x < y → y ≤ x → P
-    clash h k = absurd (omega arith)
-
-    go : (p q : Bool) → (T p → A < B) → (T (not p) → B ≤ A) → (T q → d < b) → (T (not q) → b ≤ d) → p ≡ q
-    go true true a a' c c' = refl
-    go true false a a' c c' = clash (forth (a tt)) (c' tt)
-    go false true a a' c c' = clash (back (c tt)) (a' tt)
-    go false false a a' c c' = refl
 
 minus-cross : (X Y d C x y : ℕ) → X * d ≡ x * C → Y * d ≡ y * C → (X - Y) * d ≡ (x - y) * C
 minus-cross X Y d C x y p q =
@@ -135,7 +126,5 @@ pub half-value : (z : ℤ) → unsigned_abs z < 2 ^ 24 → HasValue (div binary3
 half-value z h =
     let n = unsigned_abs z in
     let s = below-zero z in
-    let e : div binary32 (of_int binary32 z) two ≡ round binary32 s n 2 =
-    div_value (of_int binary32 z) two s false n 1 2 1 (lit< tt) (lit< tt) (lit< tt) (int-value z h) two-value
-    ∙ ap (λ (r : Bool). round binary32 r (n * 1) 2) (unlike-false s) ∙ ap (λ (m : ℕ). round binary32 s m 2) (mul-one n) in
-    subst (λ (x : Float). HasValue x s n 2) (sym e) (round_exact binary32 s n 2 n 148 (lit< tt) h (omega arith) (omega arith))
+    rw (div_value (of_int binary32 z) two s false n 1 2 1 (lit< tt) (lit< tt) (lit< tt) (int-value z h) two-value, unlike-false s, mul-one n)
+    (round_exact binary32 s n 2 n 148 (lit< tt) h (omega arith) (omega arith))
