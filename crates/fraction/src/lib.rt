@@ -17,20 +17,12 @@ pub struct Fraction {
     pub denominator: u32,
 }
 
-// t - l.
-fn unlinked(p: Points) -> i64
-    requires { T (in_range p) }
-    ensures { result ≡ pos p.t -ℤ pos p.l }
-{
-    i64::from(p.t) - i64::from(p.l)
-}
-
-// h times that.
+// h (t - l).
 fn exact_numerator(p: Points) -> i64
     requires { T (in_range p) }
     ensures { result ≡ exact p }
 {
-    i64::from(p.h) * unlinked(p)
+    i64::from(p.h) * (i64::from(p.t) - i64::from(p.l))
 }
 
 // A numerator times another's denominator.
