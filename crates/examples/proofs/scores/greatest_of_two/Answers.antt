@@ -1,5 +1,6 @@
-use Rattle.std.proofs.Common.{◌≡◌, ℕ, Bool, [], ◌∷◌, Some, Option, refl, ap, ◌∙◌}
+use Rattle.std.proofs.Common.{◌≡◌, [], ◌∷◌, Some, refl, ◌∙◌, arith}
 use lib.Ieee.{of_bits, of_int, div, sub, mul, round, lt}
+use Rattle.std.proofs.lemmas.Grind.{common_steps}
 use Rattle.std.specs.Float.{float_is_finite}
 use Rattle.score.specs.Greatest.{first_greatest}
 use Rattle.rounded.specs.Roundeds as rounded
@@ -20,6 +21,8 @@ ranked = (refl, refl, refl, refl)
 
 pub returns : goal.returns
 returns c =
-    let p = (rw (c.settle.ensures.value, c.settle-2.ensures.value) at c.first_greatest-rounded.ensures.value) ∙ of-rounded in
-    let q = (simp (c.settle-3.ensures, c.settle-4.ensures) at c.first_greatest-exact.ensures.value) ∙ of-fractions in
+    let r : c.map.result ≡ rounded.rounded linked ∷ rounded.rounded plain ∷ [] = grind (arith, common_steps) in
+    let e : c.map-2.result ≡ fraction.fraction linked ∷ fraction.fraction plain ∷ [] = grind (arith, common_steps) in
+    let p = (rw r at c.first_greatest-rounded.ensures.value) ∙ of-rounded in
+    let q = (rw e at c.first_greatest-exact.ensures.value) ∙ of-fractions in
     record { value = cc; ranked = ranked }
