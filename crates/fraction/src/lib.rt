@@ -1,7 +1,7 @@
 // The fraction kind: exact scores.
 #![tactic(auto)]
 
-ghost use Rattle.std.specs.Prelude.{◌≡◌, max, T, pos, ◌-ℤ◌, ◌*ℤ◌};
+ghost use Rattle.std.specs.Prelude.{◌≡◌, max, T, pos, ◌*ℤ◌};
 ghost use Rattle.score.specs.Ranges.{in_range};
 ghost use Rattle.score.specs.Exact.{exact};
 ghost use Rattle.fraction.specs.Fractions.{fraction, greater};
