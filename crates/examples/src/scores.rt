@@ -13,23 +13,24 @@ pub fn exact_scores() -> [Fraction; 4]
     ensures exact { ExactScores }
 {
     [
-        Fraction::settle(Points {
+        Points {
             h: 14,
             t: 30,
             l: 10,
-        }),
-        Fraction::settle(Points {
+        },
+        Points {
             h: -12,
             t: 20,
             l: 40,
-        }),
-        Fraction::settle(Points {
+        },
+        Points {
             h: 30,
             t: 20,
             l: 12,
-        }),
-        Fraction::settle(Points { h: 12, t: 20, l: 0 }),
+        },
+        Points { h: 12, t: 20, l: 0 },
     ]
+    .map(Fraction::settle)
 }
 
 // The first greatest of the candidates (30, 20, 12) and (12, 20, 0), by the rounded and by the fraction kind: both are exactly 6.
@@ -43,7 +44,8 @@ pub fn greatest_of_two() -> (Option<usize>, Option<usize>)
         l: 12,
     };
     let plain = Points { h: 12, t: 20, l: 0 };
-    let rounded = first_greatest(&[Rounded::settle(linked), Rounded::settle(plain)]);
-    let exact = first_greatest(&[Fraction::settle(linked), Fraction::settle(plain)]);
+    let candidates = [linked, plain];
+    let rounded = first_greatest(&candidates.map(Rounded::settle));
+    let exact = first_greatest(&candidates.map(Fraction::settle));
     (rounded, exact)
 }

@@ -1,11 +1,13 @@
 -- The fraction kind compares by cross multiplication, and so keeps its order, and its distance with step 0. Assumes nothing.
 use Rattle.std.specs.Prelude.{◌≡◌, ℕ, ◌+◌, ◌*◌, ◌^◌, ◌<◌, ◌≤◌, max, not, T, ℤ, pos, ◌*ℤ◌, int_lt}
-use Rattle.std.proofs.Common.{sym, ap, ◌∙◌, mul_comm, mul_assoc, lt_of_mul-lt-mul_right, arith}
-use borrow.Author.Differences.{up, down, lt_T, lt_not, product_is}
+use Rattle.std.proofs.Common.{arith}
+use Rattle.std.proofs.lemmas.Int.{ints}
+use borrow.Author.Differences.{up, down, product_is}
 use Rattle.score.specs.declared.points.Points.{Points}
 use Rattle.score.specs.Exact.{exact}
-use Rattle.score.specs.Laws.{Order}
-use Rattle.score.proofs.Exact.{margin, Over}
+use Rattle.score.specs.Laws.{Order, Distance}
+use Rattle.score.proofs.Ranges.{range-out}
+use Rattle.score.proofs.Exact.{margin, Over, over}
 use Rattle.score.proofs.Fractions.{Compares, exceeds-by, order-by}
 use Rattle.fraction.specs.declared.Fraction.{Fraction}
 use Rattle.fraction.specs.Fractions.{fraction, divisor, greater}
@@ -24,10 +26,10 @@ compares = record {
 }
   where
     above : (x y : ℤ) (p q : ℕ) → T (int_lt (y *ℤ pos p) (x *ℤ pos q)) → up y * p + down x * q < up x * q + down y * p
-    above x y p q t = omega (arith, lt_T (y *ℤ pos p) (x *ℤ pos q) t, (product_is y (pos p)).0, (product_is y (pos p)).1, (product_is x (pos q)).0, (product_is x (pos q)).1)
+    above x y p q t = grind (arith, ints, product_is y (pos p), product_is x (pos q))
 
     at_most : (x y : ℤ) (p q : ℕ) → T (not (int_lt (y *ℤ pos p) (x *ℤ pos q))) → up x * q + down y * p ≤ up y * p + down x * q
-    at_most x y p q t = omega (arith, lt_not (y *ℤ pos p) (x *ℤ pos q) t, (product_is y (pos p)).0, (product_is y (pos p)).1, (product_is x (pos q)).0, (product_is x (pos q)).1)
+    at_most x y p q t = grind (arith, ints, product_is y (pos p), product_is x (pos q))
 
 pub order : Order greater
 order = order-by greater plus less divisor compares
@@ -36,21 +38,14 @@ order = order-by greater plus less divisor compares
 divisor-is : (t : ℕ) → 1 ≤ t → max (2 * t) 1 ≡ 2 * t
 divisor-is t h = omega arith
 
--- without the factor 2 ^ 22 and the distances, which are 0
-cancelled : (a b c d t u r s : ℕ) → a * 2 ^ 22 * t + r + b * 2 ^ 22 * u + s < c * 2 ^ 22 * u + d * 2 ^ 22 * t → a * t + b * u < c * u + d * t
-cancelled a b c d t u r s h =
-    let swap : (x y : ℕ) → x * 2 ^ 22 * y ≡ x * y * 2 ^ 22 = λ x y. mul_assoc x (2 ^ 22) y ∙ ap (λ z. x * z) (mul_comm (2 ^ 22) y) ∙ sym (mul_assoc x y (2 ^ 22)) in
-    let goal : (a * t + b * u) * 2 ^ 22 < (c * u + d * t) * 2 ^ 22 = omega (arith, h, swap a t, swap b u, swap c u, swap d t) in
-    lt_of_mul-lt-mul_right (2 ^ 22) goal
+-- without the factor 2 ^ 22 and the distances, which are 0, over 2t and 2u
+doubled : (a b c d t u r s p q : ℕ) → p ≡ 2 * t → q ≡ 2 * u → a * 2 ^ 22 * t + r + b * 2 ^ 22 * u + s < c * 2 ^ 22 * u + d * 2 ^ 22 * t → a * p + b * q < c * q + d * p
+doubled a b c d t u r s p q e f h = rw (e, f) (grind arith)
 
--- over 2t and 2u
-doubled : (a b c d t u p q : ℕ) → p ≡ 2 * t → q ≡ 2 * u → a * t + b * u < c * u + d * t → a * p + b * q < c * q + d * p
-doubled a b c d t u p q e f h =
-    let twice : (x y z : ℕ) → z ≡ 2 * y → x * z ≡ 2 * (x * y) = λ x y z g. ap (λ n. x * n) g ∙ sym (mul_assoc x 2 y) ∙ ap (λ n. n * y) (mul_comm x 2) ∙ mul_assoc 2 x y in
-    omega (arith, h, twice a t p e, twice b u q f, twice c u q f, twice d t p e)
-
-pub exceeds-over : (p q : Points) → 1 ≤ p.t → 1 ≤ q.t → Over 0 p q → T (greater (fraction p) (fraction q))
+exceeds-over : (p q : Points) → 1 ≤ p.t → 1 ≤ q.t → Over 0 p q → T (greater (fraction p) (fraction q))
 exceeds-over p q P Q h =
     exceeds-by greater plus less divisor compares (fraction p) (fraction q)
-    (doubled (up (exact q)) (down (exact p)) (up (exact p)) (down (exact q)) p.t q.t (divisor (fraction p)) (divisor (fraction q)) (divisor-is p.t P) (divisor-is q.t Q)
-    (cancelled (up (exact q)) (down (exact p)) (up (exact p)) (down (exact q)) p.t q.t (margin 0 q * p.t) (margin 0 p * q.t) h))
+    (doubled (up (exact q)) (down (exact p)) (up (exact p)) (down (exact q)) p.t q.t (margin 0 q * p.t) (margin 0 p * q.t) _ _ (divisor-is p.t P) (divisor-is q.t Q) h)
+
+pub distance : Distance 0 fraction greater
+distance p q i j a = exceeds-over p q (range-out p i).some (range-out q j).some (over 0 p q a)

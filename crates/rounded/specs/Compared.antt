@@ -1,7 +1,8 @@
 -- The order of the rounded scores, by the fractions (plus - less) / den that their finite values equal. Assumes nothing.
 use Rattle.std.specs.Prelude.{◌≡◌, ℕ, ◌+◌, ◌*◌, ◌<◌, ◌≤◌, Bool, true, false, cond, not, T, Float}
-use Rattle.std.proofs.Common.{sym, ap, ◌∙◌, true≢false, mul_comm, mul_assoc, mul_right_comm, add-mul, zero-mul, mul-pos, mul-lt-mul_of_pos_right, lt_of_mul-lt-mul_right, arith, ltb→lt, nltb→le}
-use Rattle.std.specs.Float.Ieee.{up, down, lt, of_bits}
+use Rattle.std.proofs.Common.{ap, mul-pos, mul-lt-mul_of_pos_right, lt_of_mul-lt-mul_right, arith}
+use Rattle.std.proofs.lemmas.Bool.Decides.{nat_tests}
+use Rattle.std.specs.Float.Ieee.{up, lt, of_bits}
 use Rattle.std.specs.Float.Ieee.Exact.{HasValue}
 use Rattle.std.specs.Float.Ieee.Positive.{den, den_pos}
 use Rattle.std.specs.Float.{float_is_finite, nan, inf, fin}
@@ -35,10 +36,7 @@ above nan x p q h = absurd p
 above (inf s) x p q h = absurd p
 above (fin s n d) nan p q h = absurd q
 above (fin s n d) (inf t) p q h = absurd q
-above (fin false n d) (fin false m e) p q h = let k = ltb→lt (n * up d * down e) (m * up e * down d) h in omega arith
-above (fin false n d) (fin true m e) p q h = absurd h
-above (fin true n d) (fin false m e) p q h = let k = ltb→lt 0 (n * up d * down e + m * up e * down d) h in omega arith
-above (fin true n d) (fin true m e) p q h = let k = ltb→lt (m * up e * down d) (n * up d * down e) h in omega arith
+above (fin s n d) (fin t m e) p q h = grind (arith, nat_tests)
 
 at_most : (y x : Float) → T (float_is_finite y) → T (float_is_finite x) → T (not (lt y x)) → plus x * den y + less y * den x ≤ plus y * den x + less x * den y
 unfolding lt float_is_finite
@@ -46,10 +44,7 @@ at_most nan x p q h = absurd p
 at_most (inf s) x p q h = absurd p
 at_most (fin s n d) nan p q h = absurd q
 at_most (fin s n d) (inf t) p q h = absurd q
-at_most (fin false n d) (fin false m e) p q h = let k = nltb→le (n * up d * down e) (m * up e * down d) h in omega arith
-at_most (fin false n d) (fin true m e) p q h = omega arith
-at_most (fin true n d) (fin false m e) p q h = let k = nltb→le 0 (n * up d * down e + m * up e * down d) h in omega arith
-at_most (fin true n d) (fin true m e) p q h = let k = nltb→le (m * up e * down d) (n * up d * down e) h in omega arith
+at_most (fin s n d) (fin t m e) p q h = grind (arith, nat_tests)
 
 -- ---- the scores, where one that is not finite is taken for 0
 is_finite : (a : Rounded) → T (float_is_finite (finite_or_zero a))
@@ -75,40 +70,28 @@ order = order-by greater (λ a. plus (finite_or_zero a)) (λ a. less (finite_or_
 value-plus : (x : Float) (s : Bool) (g c : ℕ) → HasValue x s g c → plus x * c ≡ plus-of s g * den x
 value-plus nan s g c h = absurd h
 value-plus (inf t) s g c h = absurd h
-value-plus (fin false m e) false g c h = h.1
-value-plus (fin true m e) true g c h = zero-mul c ∙ sym (zero-mul (down e))
-value-plus (fin true m e) false g c h = absurd (true≢false h.0)
-value-plus (fin false m e) true g c h = absurd (true≢false (sym h.0))
+value-plus (fin r m e) s g c h = grind arith
 
 value-less : (x : Float) (s : Bool) (g c : ℕ) → HasValue x s g c → less x * c ≡ less-of s g * den x
 value-less nan s g c h = absurd h
 value-less (inf t) s g c h = absurd h
-value-less (fin false m e) false g c h = zero-mul c ∙ sym (zero-mul (down e))
-value-less (fin true m e) true g c h = h.1
-value-less (fin true m e) false g c h = absurd (true≢false h.0)
-value-less (fin false m e) true g c h = absurd (true≢false (sym h.0))
-
--- a / dx over dy, times c
-turned : (a dy c b dx : ℕ) → a * c ≡ b * dx → a * dy * c ≡ b * (dx * dy)
-turned a dy c b dx e = mul_right_comm a dy c ∙ ap (λ (z : ℕ). z * dy) e ∙ mul_assoc b dx dy
+value-less (fin r m e) s g c h = grind arith
 
 pub exceeds-values : (a b : Rounded) (s t : Bool) (g f c : ℕ) → 0 < c → HasValue (finite_or_zero a) s g c → HasValue (finite_or_zero b) t f c
     → plus-of t f + less-of s g < plus-of s g + less-of t f → T (greater a b)
 exceeds-values a b s t g f c C k h l =
     let x = finite_or_zero a in
     let y = finite_or_zero b in
-    let dx = den x in
-    let dy = den y in
-    let D : 0 < dx * dy = mul-pos (den_pos x) (den_pos y) in
-    let flip : dy * dx ≡ dx * dy = mul_comm dy dx in
-    let e1 : plus y * dx * c ≡ plus-of t f * (dx * dy) = turned (plus y) dx c (plus-of t f) dy (value-plus y t f c h) ∙ ap (λ (z : ℕ). plus-of t f * z) flip in
-    let e2 : less x * dy * c ≡ less-of s g * (dx * dy) = turned (less x) dy c (less-of s g) dx (value-less x s g c k) in
-    let e3 : plus x * dy * c ≡ plus-of s g * (dx * dy) = turned (plus x) dy c (plus-of s g) dx (value-plus x s g c k) in
-    let e4 : less y * dx * c ≡ less-of t f * (dx * dy) = turned (less y) dx c (less-of t f) dy (value-less y t f c h) ∙ ap (λ (z : ℕ). less-of t f * z) flip in
-    let m : (plus-of t f + less-of s g) * (dx * dy) < (plus-of s g + less-of t f) * (dx * dy) = mul-lt-mul_of_pos_right l D in
-    let a1 = add-mul (plus-of t f) (less-of s g) (dx * dy) in
-    let a2 = add-mul (plus-of s g) (less-of t f) (dx * dy) in
-    let a3 = add-mul (plus y * dx) (less x * dy) c in
-    let a4 = add-mul (plus x * dy) (less y * dx) c in
-    let goal : (plus y * dx + less x * dy) * c < (plus x * dy + less y * dx) * c = omega arith in
-    exceeds-by greater (λ a. plus (finite_or_zero a)) (λ a. less (finite_or_zero a)) (λ a. den (finite_or_zero a)) compares a b (lt_of_mul-lt-mul_right c goal)
+    exceeds-by greater (λ a. plus (finite_or_zero a)) (λ a. less (finite_or_zero a)) (λ a. den (finite_or_zero a)) compares a b
+    (crossed (plus y) (less x) (plus x) (less y) (den x) (den y) (plus-of t f) (less-of s g) (plus-of s g) (less-of t f) c C (mul-pos (den_pos x) (den_pos y))
+    (value-plus y t f c h) (value-less x s g c k) (value-plus x s g c k) (value-less y t f c h) l)
+  where
+    crossed : (py lx px ly dx dy a b d e c : ℕ) → 0 < c → 0 < dx * dy → py * c ≡ a * dy → lx * c ≡ b * dx → px * c ≡ d * dx → ly * c ≡ e * dy → a + b < d + e → py * dx + lx * dy < px * dy + ly * dx
+    crossed py lx px ly dx dy a b d e c C D p q r s l =
+        let p' = ap (λ (z : ℕ). z * dx) p in
+        let q' = ap (λ (z : ℕ). z * dy) q in
+        let r' = ap (λ (z : ℕ). z * dy) r in
+        let s' = ap (λ (z : ℕ). z * dx) s in
+        let m = mul-lt-mul_of_pos_right l D in
+        let goal : (py * dx + lx * dy) * c < (px * dy + ly * dx) * c = grind arith in
+        lt_of_mul-lt-mul_right c goal

@@ -1,6 +1,6 @@
 -- How far `round binary32` is from the fraction that it is handed: at most 2 ^ -24 of it, and half of the smallest value. Assumes nothing.
-use Rattle.std.specs.Prelude.{◌≡◌, ℕ, suc, ◌+◌, ◌-◌, ◌*◌, ◌/◌, ◌%◌, ◌^◌, ◌<◌, ◌≤◌, not, T, ◌==◌}
-use Rattle.std.proofs.Common.{sym, ap, ◌∙◌, subst, inl, inr, mul_comm, mul_assoc, add-mul, suc-mul, one-mul, mul-one, mul-le-mul_right, mul-pos, mod-lt, div-add-mod', le-div_iff_mul-le, eq-zero-or-pos, arith, leb→le, eqb→eq, pow-add, pow_pos}
+use Rattle.std.specs.Prelude.{◌≡◌, ℕ, ◌+◌, ◌-◌, ◌*◌, ◌/◌, ◌%◌, ◌^◌, ◌<◌, ◌≤◌, not, T, ◌==◌}
+use Rattle.std.proofs.Common.{ap, ◌∙◌, subst, inl, inr, mul-one, mul-le-mul_right, mul-pos, mod-lt, div-add-mod', le-div_iff_mul-le, eq-zero-or-pos, arith, leb→le, eqb→eq, pow-add, pow_pos}
 use Prim.Native.Nat.{compare, Ordering}
 use Rattle.std.proofs.Math.Dec.{is_le, compare_is_eq, nleb→lt, eqb_refl}
 use Rattle.std.proofs.Math.Arith.{lt_of_le-ne}
@@ -31,25 +31,18 @@ Half x a b = (x * b * 2 ≤ a * 2 + b) × (a * 2 ≤ x * b * 2 + b)
 near-go : (q r b a : ℕ) (o : Ordering) → Cmp o (r * 2) b → q * b + r ≡ a → r < b → Half (nearest q o) a b
 near-go q r b a Ordering.lt h e l = (omega arith, omega arith)
 near-go q r b a Ordering.eq h e l =
-    let p : (q + q % 2) * b ≡ q * b + q % 2 * b = add-mul q (q % 2) b in
-    let one : q % 2 ≤ 1 = omega arith in
-    let m : q % 2 * b ≤ 1 * b = mul-le-mul_right b one in
-    let o : 1 * b ≡ b = one-mul b in
-    (omega arith, omega arith)
-near-go q r b a Ordering.gt h e l =
-    let p : suc q * b ≡ q * b + b = suc-mul q b in
-    (omega arith, omega arith)
+    let m : q % 2 * b ≤ 1 * b = mul-le-mul_right b (omega arith) in
+    (grind arith, grind arith)
+near-go q r b a Ordering.gt h e l = (grind arith, grind arith)
 
 pub closest-half : (a b : ℕ) → 0 < b → Half (closest a b) a b
 closest-half a b B = near-go (a / b) (a % b) b a (compare (a % b * 2) b) (cmp (a % b * 2) b) (div-add-mod' a b) (mod-lt a B)
 
 -- ---- the unit that is kept, 2 ^ k, is small beside the number, unless it is the smallest
-unit-go : (p n c z : ℕ) → 0 < c → 0 < z - p → (p - 1 + (z - p) < z → 2 ^ (p - 1 + (z - p)) ≤ n / c) → 0 < p → c * 2 ^ (z - p) * 2 ^ (p - 1) ≤ n
-unit-go p n c z C K r P =
-    let lt : p - 1 + (z - p) < z = omega arith in
-    let a : 2 ^ (p - 1 + (z - p)) * c ≤ n = (le-div_iff_mul-le C).0 (r lt) in
-    let e : c * 2 ^ (z - p) * 2 ^ (p - 1) ≡ 2 ^ (p - 1 + (z - p)) * c = mul_assoc c (2 ^ (z - p)) (2 ^ (p - 1)) ∙ mul_comm c (2 ^ (z - p) * 2 ^ (p - 1)) ∙ ap (λ (x : ℕ). x * c) (mul_comm (2 ^ (z - p)) (2 ^ (p - 1)) ∙ sym (pow-add 2 (p - 1) (z - p))) in
-    omega arith
+unit-go : (n c z : ℕ) → 0 < c → 0 < z - 24 → (23 + (z - 24) < z → 2 ^ (23 + (z - 24)) ≤ n / c) → c * 2 ^ (z - 24) * 2 ^ 23 ≤ n
+unit-go n c z C K r =
+    let a = subst (λ (x : ℕ). x * c ≤ n) (pow-add 2 23 (z - 24)) ((le-div_iff_mul-le C).0 (r (omega arith))) in
+    grind arith
 
 unit-small : (n c : ℕ) → 0 < c → c * 2 ^ drop 24 n c * 2 ^ 23 ≤ n + c * 2 ^ 23
 unit-small n c C =
@@ -59,7 +52,7 @@ unit-small n c C =
           let f : c * 2 ^ (z - 24) ≡ c = ap (λ (x : ℕ). c * 2 ^ x) e ∙ mul-one c in
           omega arith
       | inr k ↦
-          let u : c * 2 ^ (z - 24) * 2 ^ 23 ≤ n = unit-go 24 n c z C k (size_reaches (n / c) (24 - 1 + (z - 24))) (omega arith) in
+          let u = unit-go n c z C k (size_reaches (n / c) (23 + (z - 24))) in
           omega arith
     ]
 
@@ -68,11 +61,7 @@ abbrev pub Near : ℕ → ℕ → ℕ → Type 0
 Near g n c = (g * c * 2 ^ 24 ≤ n * 2 ^ 24 + n + c * 2 ^ 23) × (n * 2 ^ 24 ≤ g * c * 2 ^ 24 + n + c * 2 ^ 23)
 
 near_of : (x n c k : ℕ) → Half x n (c * 2 ^ k) → c * 2 ^ k * 2 ^ 23 ≤ n + c * 2 ^ 23 → Near (x * 2 ^ k) n c
-near_of x n c k h u =
-    let e : x * 2 ^ k * c ≡ x * (c * 2 ^ k) = mul_assoc x (2 ^ k) c ∙ ap (λ (y : ℕ). x * y) (mul_comm (2 ^ k) c) in
-    let a = h.0 in
-    let b = h.1 in
-    (omega arith, omega arith)
+near_of x n c k h u = (grind arith, grind arith)
 
 pub grid-near : (a c : ℕ) → 0 < c → Near (grid binary32 a c) (a * 2 ^ 149) c
 grid-near a c C =

@@ -1,7 +1,8 @@
 -- What the rounded kind settles: a finite value, and how far it is from the exact score. N is 2 ^ 149, so that values are counted in units of 1 / N. Assumes nothing.
-use Rattle.std.specs.Prelude.{◌≡◌, ℕ, ◌+◌, ◌-◌, ◌*◌, ◌^◌, ◌<◌, ◌≤◌, Bool, true, false, cond, not, T, ltb, pos, nat_lt, unsigned_abs, refl, Float}
-use Rattle.std.proofs.Common.{sym, ap, ◌∙◌, subst, mul-one, one-mul, mul-le-mul, mul-le-mul_left, arith, ltb→lt, nltb→le, lit<, lit≤}
-use Rattle.std.specs.Float.Ieee.{unlike, round, of_int, of_bits, sub, mul, div}
+use Rattle.std.specs.Prelude.{◌≡◌, ℕ, ◌+◌, ◌*◌, ◌^◌, ◌<◌, ◌≤◌, Bool, false, T, ltb, pos, nat_lt, unsigned_abs, refl, Float}
+use Rattle.std.proofs.Common.{mul-one, one-mul, mul-le-mul, mul-le-mul_left, arith, lit<, lit≤}
+use Rattle.std.proofs.lemmas.Bool.Decides.{nat_tests}
+use Rattle.std.specs.Float.Ieee.{unlike, of_int, of_bits, sub, mul, div}
 use Rattle.std.specs.Float.Ieee.Exact.{HasValue}
 use Rattle.std.specs.Float.Ieee.Scale.{grid}
 use Rattle.std.specs.Float.{float_is_finite, nan, inf, fin, binary32}
@@ -20,34 +21,25 @@ N = 2 ^ 149
 first_small : (g t l : ℕ) → 1 ≤ t → t ≤ 131072 → l < 2 ^ 23 → Near g (l * N) t → g < 2 ^ 174
 first_small g t l T t' l' h =
     let a = h.0 in
-    let b : g * 1 ≤ g * t = mul-le-mul_left g T in
-    let c : g * 1 ≡ g = mul-one g in
-    omega arith
+    let b = mul-le-mul_left g T in
+    grind arith
 
 apart-le : (d b : ℕ) → apart d b ≤ d + b
-apart-le d b = go (nat_lt d b)
-  where
-    go : (o : Bool) → cond o (b - d) (d - b) ≤ d + b
-    go true = omega arith
-    go false = omega arith
+apart-le d b = grind arith
 
 second-small : (g M : ℕ) → M < 2 ^ 175 → Near g M 1 → g < 2 ^ 177
-second-small g M m h = let a = h.0 in let c : g * 1 ≡ g = mul-one g in omega arith
+second-small g M m h = let a = h.0 in grind arith
 
 third-small : (g H k : ℕ) → H < 2 ^ 21 → k < 2 ^ 177 → Near g (H * k) 2 → g < 2 ^ 277
 third-small g H k a b h =
     let x = h.0 in
     let a' : H ≤ 2 ^ 21 = omega arith in
     let b' : k ≤ 2 ^ 177 = omega arith in
-    let c : H * k ≤ 2 ^ 21 * 2 ^ 177 = mul-le-mul a' b' in
+    let c = mul-le-mul a' b' in
     omega arith
 
 rest_is : (d b : ℕ) → Rest (nat_lt d b) (apart d b) b d
-rest_is d b = go (nat_lt d b) (ltb→lt d b) (nltb→le d b)
-  where
-    go : (o : Bool) → (T o → d < b) → (T (not o) → b ≤ d) → Rest o (cond o (b - d) (d - b)) b d
-    go true h k = let x = h tt in omega arith
-    go false h k = let x = k tt in omega arith
+rest_is d b = grind (arith, nat_tests)
 
 -- ---- the literals
 one-is : literal.one ≡ one
@@ -60,10 +52,7 @@ two_is = refl
 
 rounded-is : (p : Points)
     → (rounded p).value ≡ mul binary32 (div binary32 (of_int binary32 p.h) two) (sub binary32 one (div binary32 (of_int binary32 (pos p.l)) (of_int binary32 (pos p.t))))
-rounded-is p =
-    let rest : Float = div binary32 (of_int binary32 (pos p.l)) (of_int binary32 (pos p.t)) in
-    ap (λ (x : Float). mul binary32 (div binary32 (of_int binary32 p.h) x) (sub binary32 literal.one rest)) two_is
-    ∙ ap (λ (x : Float). mul binary32 (div binary32 (of_int binary32 p.h) two) (sub binary32 x rest)) one-is
+rounded-is p = rw (two_is, one-is)
 
 -- ---- the three steps
 pub record Settled (p : Points) : Type 0 where
@@ -72,9 +61,6 @@ pub record Settled (p : Points) : Type 0 where
   pub value : HasValue (rounded p).value (unlike (below-zero p.h) over) size N
   pub off : OffBy over (size * p.t) (N * (p.t * unsigned_abs p.h)) (p.l * N * unsigned_abs p.h)
 
-wider : (n : ℕ) → n < 2 ^ 21 → n < 2 ^ 24
-wider n h = omega arith
-
 pub settled : (p : Points) → InRange p → Settled p
 settled p i =
     let h = p.h in
@@ -82,32 +68,31 @@ settled p i =
     let l = p.l in
     let H = unsigned_abs h in
     let s = below-zero h in
-    let T' : 0 < t = (let x = i.some in omega arith) in
-    let tf : t < 2 ^ 24 = (let x = i.text in omega arith) in
-    let lf : l < 2 ^ 24 = (let x = i.links in omega arith) in
+    let T' : 0 < t = omega arith in
+    let tf : t < 2 ^ 24 = omega arith in
+    let lf : l < 2 ^ 24 = omega arith in
+    let hf : H < 2 ^ 24 = omega arith in
     let q = div binary32 (of_int binary32 (pos l)) (of_int binary32 (pos t)) in
     let g1 = grid binary32 l t in
     let n1 : Near g1 (l * N) t = grid-near l t T' in
     let s1 : g1 < 2 ^ 174 = first_small g1 t l i.some i.text i.links n1 in
-    let q-is : q ≡ round binary32 false l t =
-    div_value (of_int binary32 (pos l)) (of_int binary32 (pos t)) false false l 1 t 1 (lit< tt) (lit< tt) T' (int-value (pos l) lf) (int-value (pos t) tf)
-    ∙ ap (λ (x : ℕ). round binary32 false x (1 * t)) (mul-one l) ∙ ap (λ (x : ℕ). round binary32 false l x) (one-mul t) in
-    let q-value : HasValue q false g1 N = subst (λ (x : Float). HasValue x false g1 N) (sym q-is) (rounded-value false l t (omega arith)) in
+    let q-is = div_value (of_int binary32 (pos l)) (of_int binary32 (pos t)) false false l 1 t 1 (lit< tt) (lit< tt) T' (int-value (pos l) lf) (int-value (pos t) tf) in
+    let q-value : HasValue q false g1 N = rw (q-is, mul-one l, one-mul t) (rounded-value false l t (omega arith)) in
     let o = ltb N g1 in
     let M = apart N g1 in
-    let m : M < 2 ^ 175 = (let x = apart-le N g1 in omega arith) in
+    let m : M < 2 ^ 175 = omega (arith, apart-le N g1) in
     let d = sub binary32 one q in
     let g2 = grid binary32 M N in
     let n2 : Near g2 M 1 = cancel g2 M 1 N (lit< tt) (grid-near M N (lit< tt)) in
     let s2 : g2 < 2 ^ 177 = second-small g2 M m n2 in
-    let d-value : HasValue d o g2 N = subst (λ (x : Float). HasValue x o g2 N) (sym (sub-value q g1 N (lit< tt) q-value)) (rounded-value o M N (omega arith)) in
+    let d-value : HasValue d o g2 N = rw (sub-value q g1 N (lit< tt) q-value) (rounded-value o M N (omega arith)) in
     let g3 = grid binary32 (H * g2) (2 * N) in
     let n3 : Near g3 (H * g2) 2 = cancel g3 (H * g2) 2 N (lit< tt) (grid-near (H * g2) (2 * N) (lit< tt)) in
-    let r-is = mul-value (div binary32 (of_int binary32 h) two) d s o H 2 g2 N (lit< tt) (lit< tt) (half-value h (wider H i.size)) d-value in
+    let r-is = mul-value (div binary32 (of_int binary32 h) two) d s o H 2 g2 N (lit< tt) (lit< tt) (half-value h hf) d-value in
     record {
       over = o;
       size = g3;
-      value = subst (λ (x : Float). HasValue x (unlike s o) g3 N) (sym (rounded-is p ∙ r-is)) (rounded-value (unlike s o) (H * g2) (2 * N) (third-small g3 H g2 i.size s2 n3));
+      value = rw (rounded-is p, r-is) (rounded-value (unlike s o) (H * g2) (2 * N) (third-small g3 H g2 i.size s2 n3));
       off = off o H t l N g1 g2 g3 M (lit≤ tt) (record { first = n1; second = n2; third = n3 }) (rest_is N g1);
     }
 

@@ -1,12 +1,14 @@
 -- The operations on floats by the fractions that their operands equal. Assumes nothing.
-use Rattle.std.specs.Prelude.{◌≡◌, ℕ, suc, ◌-◌, ◌*◌, ◌^◌, ◌<◌, ◌≤◌, Bool, true, false, cond, not, T, ℤ, pos, negsuc, ◌==◌, nat_lt, unsigned_abs, refl, Float}
-use Rattle.std.proofs.Common.{sym, ap, ◌∙◌, subst, true≢false, mul_comm, one-mul, mul-one, mul-pos, mul-lt-mul_of_pos_right, lt_of_mul-lt-mul_right, arith, ltb→lt, nltb→le, eqb→eq, lit<, pow_pos}
-use Rattle.std.proofs.Math.Nat.{mul-mul-mul_comm, mul-sub}
+use Rattle.std.specs.Prelude.{◌≡◌, ℕ, suc, ◌-◌, ◌*◌, ◌^◌, ◌<◌, Bool, true, false, cond, ℤ, pos, negsuc, nat_lt, unsigned_abs, refl, Float}
+use Rattle.std.proofs.Common.{sym, ap, ◌∙◌, subst, true≢false, mul_comm, one-mul, mul-one, mul-pos, mul-lt-mul_of_pos_right, lt_of_mul-lt-mul_right, arith, lit<, pow_pos}
+use Rattle.std.proofs.lemmas.Bool.{ne_eqb, ltb_from_iff, ltb-true, lt-ltb}
+use Rattle.std.proofs.Math.Nat.{mul-sub}
 use Rattle.std.specs.Float.{nan, inf, fin, binary32}
 use Rattle.std.specs.Float.Ieee.{unlike, up, down, round, sum, sub, mul, div, of_int}
 use Rattle.std.specs.Float.Ieee.Fits.{up_pos, down_pos, round_is}
 use Rattle.std.specs.Float.Ieee.Exact.{HasValue, units_val, round_exact}
 use Rattle.std.specs.Float.Ieee.Order.{drop, kept}
+use Rattle.std.specs.Float.Ieee.Back.{round_whole}
 use Rattle.std.specs.Float.Ieee.Scale.{grid, round_same}
 use Rattle.std.specs.Float.Ieee.Positive.{first_pos}
 
@@ -27,23 +29,10 @@ rounded-value s a c h =
 some : (n u d b dg : ℕ) → 0 < b → 0 < dg → n * u * d ≡ b * dg → 0 < n
 some n u d b dg B G e = first_pos n u (first_pos (n * u) d (subst (λ (z : ℕ). 0 < z) (sym e) (mul-pos B G)))
 
-not-zero : (n : ℕ) → 0 < n → (n == 0) ≡ false
-not-zero n h = go (n == 0) (eqb→eq n 0)
-  where
-    clash : n ≡ 0 → ⊥
-    clash e = omega arith
-
-    go : (b : Bool) → (T b → n ≡ 0) → b ≡ false
-    go true k = absurd (clash (k tt))
-    go false k = refl
-
 quotient-cross : (X Y de dg a b c d : ℕ) → X * c ≡ a * de → Y * d ≡ b * dg → X * dg * (c * b) ≡ a * d * (Y * de)
 quotient-cross X Y de dg a b c d p q =
-    mul-mul-mul_comm X dg c b
-    ∙ ap (λ (z : ℕ). z * (dg * b)) p
-    ∙ ap (λ (z : ℕ). a * de * z) (mul_comm dg b ∙ sym q ∙ mul_comm Y d)
-    ∙ mul-mul-mul_comm a de d Y
-    ∙ ap (λ (z : ℕ). a * d * z) (mul_comm de Y)
+    let h : X * c * (dg * b) ≡ a * de * (Y * d) = ap (λ (z : ℕ). z * (dg * b)) p ∙ ap (λ (z : ℕ). a * de * z) (mul_comm dg b ∙ sym q) in
+    grind arith
 
 pub div_value : (x y : Float) (s t : Bool) (a c b d : ℕ) → 0 < c → 0 < d → 0 < b → HasValue x s a c → HasValue y t b d → div binary32 x y ≡ round binary32 (unlike s t) (a * d) (c * b)
 unfolding div
@@ -53,13 +42,16 @@ div_value (fin r m e) nan s t a c b d C D B h k = absurd k
 div_value (fin r m e) (inf q) s t a c b d C D B h k = absurd k
 div_value (fin r m e) (fin q n g) s t a c b d C D B h k =
     let N : 0 < n = some n (up g) d b (down g) B (down_pos g) k.1 in
-    ap (λ (z : Bool). cond z (cond (m == 0) nan (inf (unlike r q))) (round binary32 (unlike r q) (m * up e * down g) (n * up g * down e))) (not-zero n N)
-    ∙ ap (λ (z : Bool). round binary32 (unlike z q) (m * up e * down g) (n * up g * down e)) h.0
-    ∙ ap (λ (z : Bool). round binary32 (unlike s z) (m * up e * down g) (n * up g * down e)) k.0
-    ∙ round_same binary32 (unlike s t) (m * up e * down g) (n * up g * down e) (a * d) (c * b) (mul-pos (mul-pos N (up_pos g)) (down_pos e)) (mul-pos C B)
-    (quotient-cross (m * up e) (n * up g) (down e) (down g) a b c d h.1 k.1)
+    rw (ne_eqb n 0 (λ e. absurd (omega arith)), h.0, k.0)
+    (round_same binary32 (unlike s t) (m * up e * down g) (n * up g * down e) (a * d) (c * b) (mul-pos (mul-pos N (up_pos g)) (down_pos e)) (mul-pos C B)
+    (quotient-cross (m * up e) (n * up g) (down e) (down g) a b c d h.1 k.1))
 
 -- ---- the product
+product-cross : (X Y de dg a b c d : ℕ) → X * c ≡ a * de → Y * d ≡ b * dg → X * Y * (c * d) ≡ a * b * (de * dg)
+product-cross X Y de dg a b c d p q =
+    let h : X * c * (Y * d) ≡ a * de * (b * dg) = ap (λ (z : ℕ). z * (Y * d)) p ∙ ap (λ (z : ℕ). a * de * z) q in
+    grind arith
+
 pub mul-value : (x y : Float) (s t : Bool) (a c b d : ℕ) → 0 < c → 0 < d → HasValue x s a c → HasValue y t b d → mul binary32 x y ≡ round binary32 (unlike s t) (a * b) (c * d)
 unfolding mul
 mul-value nan y s t a c b d C D h k = absurd h
@@ -67,56 +59,38 @@ mul-value (inf r) y s t a c b d C D h k = absurd h
 mul-value (fin r m e) nan s t a c b d C D h k = absurd k
 mul-value (fin r m e) (inf q) s t a c b d C D h k = absurd k
 mul-value (fin r m e) (fin q n g) s t a c b d C D h k =
-    ap (λ (z : Bool). round binary32 (unlike z q) (m * up e * (n * up g)) (down e * down g)) h.0
-    ∙ ap (λ (z : Bool). round binary32 (unlike s z) (m * up e * (n * up g)) (down e * down g)) k.0
-    ∙ round_same binary32 (unlike s t) (m * up e * (n * up g)) (down e * down g) (a * b) (c * d) (mul-pos (down_pos e) (down_pos g)) (mul-pos C D)
-    (mul-mul-mul_comm (m * up e) (n * up g) c d ∙ ap (λ (z : ℕ). z * (n * up g * d)) h.1 ∙ ap (λ (z : ℕ). a * down e * z) k.1 ∙ mul-mul-mul_comm a (down e) b (down g))
+    rw (h.0, k.0) (round_same binary32 (unlike s t) (m * up e * (n * up g)) (down e * down g) (a * b) (c * d) (mul-pos (down_pos e) (down_pos g)) (mul-pos C D)
+    (product-cross (m * up e) (n * up g) (down e) (down g) a b c d h.1 k.1))
 
 -- ---- 1 - y
 abbrev pub apart : ℕ → ℕ → ℕ
 apart d b = cond (nat_lt d b) (b - d) (d - b)
 
 less-same : (A B C b d : ℕ) → 0 < C → 0 < d → A ≡ C → B * d ≡ b * C → nat_lt A B ≡ nat_lt d b
-less-same A B C b d P D e f = go (nat_lt A B) (nat_lt d b) (ltb→lt A B) (nltb→le A B) (ltb→lt d b) (nltb→le d b)
+less-same A B C b d P D e f = ltb_from_iff ((λ t. forth (ltb-true A B t)), (λ h. lt-ltb A B (back h)))
   where
     forth : A < B → d < b
-    forth h =
-        let x : A * d < B * d = mul-lt-mul_of_pos_right h D in
-        let y : A * d ≡ d * C = ap (λ (z : ℕ). z * d) e ∙ mul_comm C d in
-        let z : d * C < b * C = omega arith in
-        lt_of_mul-lt-mul_right C z
+    forth h = let x : A * d < B * d = mul-lt-mul_of_pos_right h D in lt_of_mul-lt-mul_right C (grind arith)
 
     back : d < b → A < B
-    back h =
-        let x : d * C < b * C = mul-lt-mul_of_pos_right h P in
-        let y : A * d ≡ d * C = ap (λ (z : ℕ). z * d) e ∙ mul_comm C d in
-        let z : A * d < B * d = omega arith in
-        lt_of_mul-lt-mul_right d z
-
-    clash : (x y : ℕ) → x < y → y ≤ x → ⊥
-    clash x y h k = omega arith
-
-    go : (p q : Bool) → (T p → A < B) → (T (not p) → B ≤ A) → (T q → d < b) → (T (not q) → b ≤ d) → p ≡ q
-    go true true a a' c c' = refl
-    go true false a a' c c' = absurd (clash d b (forth (a tt)) (c' tt))
-    go false true a a' c c' = absurd (clash A B (back (c tt)) (a' tt))
-    go false false a a' c c' = refl
-
-sub-mul : (x y k : ℕ) → (x - y) * k ≡ x * k - y * k
-sub-mul x y k = mul_comm (x - y) k ∙ mul-sub k x y ∙ ap (λ (z : ℕ). z - k * y) (mul_comm k x) ∙ ap (λ (z : ℕ). x * k - z) (mul_comm k y)
+    back h = let x : d * C < b * C = mul-lt-mul_of_pos_right h P in lt_of_mul-lt-mul_right d (grind arith)
 
 minus-cross : (X Y d C x y : ℕ) → X * d ≡ x * C → Y * d ≡ y * C → (X - Y) * d ≡ (x - y) * C
-minus-cross X Y d C x y p q = sub-mul X Y d ∙ ap (λ (z : ℕ). z - Y * d) p ∙ ap (λ (z : ℕ). x * C - z) q ∙ sym (sub-mul x y C)
+minus-cross X Y d C x y p q =
+    let e : d * X - d * Y ≡ C * x - C * y = grind arith in
+    mul_comm (X - Y) d ∙ mul-sub d X Y ∙ e ∙ sym (mul-sub C x y) ∙ mul_comm C (x - y)
 
 sum-value : (A B C b d : ℕ) → 0 < C → 0 < d → A ≡ C → B * d ≡ b * C → sum binary32 false A true B C ≡ round binary32 (nat_lt d b) (apart d b) d
 unfolding sum
 sum-value A B C b d P D e f =
-    let y : A * d ≡ d * C = ap (λ (z : ℕ). z * d) e ∙ mul_comm C d in
-    ap (λ (z : Bool). cond z (round binary32 true (B - A) C) (round binary32 false (A - B) C)) (less-same A B C b d P D e f) ∙ go (nat_lt d b) y
+    ap (λ (z : Bool). cond z (round binary32 true (B - A) C) (round binary32 false (A - B) C)) (less-same A B C b d P D e f) ∙ go (nat_lt d b)
   where
-    go : (o : Bool) → A * d ≡ d * C → cond o (round binary32 true (B - A) C) (round binary32 false (A - B) C) ≡ round binary32 o (cond o (b - d) (d - b)) d
-    go true y = round_same binary32 true (B - A) C (b - d) d P D (minus-cross B A d C b d f y)
-    go false y = round_same binary32 false (A - B) C (d - b) d P D (minus-cross A B d C d b y f)
+    y : A * d ≡ d * C
+    y = ap (λ (z : ℕ). z * d) e ∙ mul_comm C d
+
+    go : (o : Bool) → cond o (round binary32 true (B - A) C) (round binary32 false (A - B) C) ≡ round binary32 o (cond o (b - d) (d - b)) d
+    go true = round_same binary32 true (B - A) C (b - d) d P D (minus-cross B A d C b d f y)
+    go false = round_same binary32 false (A - B) C (d - b) d P D (minus-cross A B d C d b y f)
 
 opened : (n : ℕ) (g : ℤ) → sub binary32 one (fin false n g) ≡ sum binary32 false (1 * down g) true (n * up g * 1) (1 * down g)
 unfolding sub
@@ -136,13 +110,10 @@ abbrev pub below-zero : ℤ → Bool
 below-zero (pos n) = false
 below-zero (negsuc n) = true
 
-exactly : (s : Bool) (n : ℕ) → n < 2 ^ 24 → HasValue (round binary32 s n 1) s n 1
-exactly s n h = round_exact binary32 s n 1 n 149 (lit< tt) h (omega arith) (omega arith)
-
 pub int-value : (z : ℤ) → unsigned_abs z < 2 ^ 24 → HasValue (of_int binary32 z) (below-zero z) (unsigned_abs z) 1
 unfolding of_int
-int-value (pos n) h = exactly false n h
-int-value (negsuc n) h = exactly true (suc n) h
+int-value (pos n) h = round_whole binary32 false n (omega arith)
+int-value (negsuc n) h = round_whole binary32 true (suc n) (omega arith)
 
 two-value : HasValue two false 2 1
 two-value = (refl, refl)
@@ -155,7 +126,5 @@ pub half-value : (z : ℤ) → unsigned_abs z < 2 ^ 24 → HasValue (div binary3
 half-value z h =
     let n = unsigned_abs z in
     let s = below-zero z in
-    let e : div binary32 (of_int binary32 z) two ≡ round binary32 s n 2 =
-    div_value (of_int binary32 z) two s false n 1 2 1 (lit< tt) (lit< tt) (lit< tt) (int-value z h) two-value
-    ∙ ap (λ (r : Bool). round binary32 r (n * 1) 2) (unlike-false s) ∙ ap (λ (m : ℕ). round binary32 s m 2) (mul-one n) in
-    subst (λ (x : Float). HasValue x s n 2) (sym e) (round_exact binary32 s n 2 n 148 (lit< tt) h (omega arith) (omega arith))
+    rw (div_value (of_int binary32 z) two s false n 1 2 1 (lit< tt) (lit< tt) (lit< tt) (int-value z h) two-value, unlike-false s, mul-one n)
+    (round_exact binary32 s n 2 n 148 (lit< tt) h (omega arith) (omega arith))

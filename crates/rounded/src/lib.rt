@@ -1,7 +1,6 @@
 // The rounded kind: scores in `f32`, each operation rounded.
 #![tactic(auto)]
 
-mod step;
 #[cfg(test)]
 mod tests;
 
@@ -11,12 +10,9 @@ ghost use Rattle.std.specs.Float.{float_is_finite};
 ghost use Rattle.score.specs.Ranges.{in_range, in_range_or_zero};
 ghost use Rattle.rounded.specs.Roundeds.{rounded, finite_or_zero, greater};
 ghost use Rattle.rounded.specs.Compared;
-ghost use Rattle.score.proofs.Ranges.{range-out};
-ghost use Rattle.score.proofs.Exact.{over, over-less};
-ghost use Rattle.rounded.specs.Close.{exceeds-over};
+ghost use Rattle.rounded.specs.Close;
 
 use score::{Points, ScoreKind};
-pub use step::rounded_step;
 
 // A score rounded to an `f32`. It lies in slices that may hold anything, so it has no invariant: a value that is not finite is taken for 0.
 #[derive(Clone, Copy)]
@@ -44,8 +40,6 @@ impl ScoreKind for Rounded {
 
     ghost STEP = { 1 };
 
-    ghost step = { 1 };
-
     ghost settled = { rounded };
 
     ghost exceeds = { greater };
@@ -54,11 +48,7 @@ impl ScoreKind for Rounded {
 
     ghost order = { Compared.order };
 
-    ghost distance = { λ p q i j a. exceeds-over p q (range-out p i) (range-out q j) (over-less 1 _ p q (lit≤ tt) (over _ p q a)) };
-
-    fn distance_step() -> u16 {
-        Self::STEP
-    }
+    ghost distance = { Close.distance _ (lit≤ tt) };
 
     fn settle(p: Points) -> Rounded
         ensures value { result ≡ rounded (in_range_or_zero p) }

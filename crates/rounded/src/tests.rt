@@ -3,13 +3,7 @@ use crate::Rounded;
 use score::{first_greatest, top_candidate};
 
 fn slice(values: [f32; 4]) -> [Rounded; 4] {
-    let [a, b, c, d] = values;
-    [
-        Rounded { value: a },
-        Rounded { value: b },
-        Rounded { value: c },
-        Rounded { value: d },
-    ]
+    values.map(|value| Rounded { value })
 }
 
 #[test]

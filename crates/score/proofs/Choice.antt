@@ -1,6 +1,7 @@
 -- The bound of a choice, from the laws of order and distance alone. Assumes nothing.
-use Rattle.std.proofs.Common.{◌≡◌, ℕ, ◌<◌, Bool, true, false, cond, T, List, map, length, get_or, pos, Some, None, sym, ap, ◌∙◌, subst, inl, inr, arith}
+use Rattle.std.proofs.Common.{◌≡◌, ℕ, ◌<◌, Bool, true, false, T, List, map, length, get_or, pos, Option, sym, ap, ◌∙◌, subst, inl, inr, arith}
 use lib.ListN.{length-map}
+use Rattle.std.specs.Bool.{passes, then_some}
 use Rattle.std.specs.List.{AllByRecursion}
 use Rattle.std.proofs.lemmas.List.{get_or-map}
 use Rattle.std.proofs.ByRecursion.{All-get_or, All-from_get_or, has_get_or}
@@ -8,9 +9,9 @@ use Rattle.score.specs.declared.points.Points.{Points}
 use Rattle.score.specs.Ranges.{in_range, integer}
 use Rattle.score.specs.Exact.{AtMost, AtMostOwn}
 use Rattle.score.specs.Laws.{Order, Distance}
-use Rattle.score.specs.Greatest.{first_greatest, top_candidate, FirstGreatest}
-use Rattle.score.specs.Choice.{Positive, points_at, Bounded, BoundedTop, WhereSettled}
-use Rattle.score.proofs.Greatest.{clash, top-some}
+use Rattle.score.specs.Greatest.{FirstGreatest}
+use Rattle.score.specs.Choice.{Positive, points_at, Bounded, BoundedTop}
+use Rattle.score.proofs.Greatest.{clash}
 use Rattle.score.proofs.Exact.{at_most, at_most-own}
 
 -- what stands at an index of the settled scores
@@ -46,37 +47,19 @@ bounded k settled exceeds order distance ps within i first =
     }
 
 -- ---- by the answer of the search
-pub none-bounded : {S : Type 0} (settled : Points → S) (scores : List S) (ps : List Points) → length scores ≡ 0 → scores ≡ map settled ps → length ps ≡ 0
-none-bounded settled scores ps e s = sym (length-map ps settled) ∙ ap length (sym s) ∙ e
-
-pub top-bounded-none : (k : ℕ) (ps : List Points) → length ps ≡ 0 → AllByRecursion (λ p. AtMostOwn k p) ps
-top-bounded-none k ps e = All-from_get_or (λ p. AtMostOwn k p) ps (integer (pos 0)) (λ m l. absurd (never m l))
-  where
-    never : (m : ℕ) → m < length ps → ⊥
-    never m l = omega arith
-
-top-bounded : {S : Type 0} (k : ℕ) (settled : Points → S) (exceeds : S → S → Bool) (x : S) (scores : List S) (i : ℕ) (b : Bool) → i < length scores → x ≡ get_or scores i x
-    → b ≡ exceeds x (settled (integer (pos 0)))
-    → (ps : List Points) → scores ≡ map settled ps → Bounded k settled exceeds ps i → BoundedTop k settled exceeds ps (cond b (Some i) None)
-top-bounded {S = S} k settled exceeds x scores i b l at test ps e bound =
+-- x stands at the index i of the first greatest, and b says whether it exceeds the integer score 0
+pub top-bounded : {S : Type 0} (k : ℕ) (settled : Points → S) (exceeds : S → S → Bool) (x : S) (scores : List S) (i : ℕ) (b : Bool) (r : Option ℕ) → i < length scores
+    → x ≡ get_or scores i x → b ≡ exceeds x (settled (integer (pos 0))) → r ≡ then_some b i
+    → (ps : List Points) → scores ≡ map settled ps → Bounded k settled exceeds ps i → BoundedTop k settled exceeds ps r
+top-bounded {S = S} k settled exceeds x scores i b r l at test is ps e bound =
     let zero = integer (pos 0) in
     let size : length scores ≡ length ps = ap length e ∙ length-map ps settled in
     let i-in : i < length ps = omega arith in
     let x-is : x ≡ settled (points_at ps i) = at ∙ ap (λ (s : List S). get_or s i x) e ∙ settled_at settled ps i x i-in in
-    go b (test ∙ ap (λ (s : S). exceeds s (settled zero)) x-is) i-in
+    subst (BoundedTop k settled exceeds ps) (sym is) (go b (test ∙ ap (λ (s : S). exceeds s (settled zero)) x-is) i-in)
   where
-    go : (b : Bool) → b ≡ exceeds (settled (points_at ps i)) (settled (integer (pos 0))) → i < length ps → BoundedTop k settled exceeds ps (cond b (Some i) None)
-    go true test i-in = bound.some (points_at ps i) (has_get_or ps i (integer (pos 0)) i-in) (subst (λ (b : Bool). T b) test tt)
+    go : (b : Bool) → b ≡ exceeds (settled (points_at ps i)) (settled (integer (pos 0))) → i < length ps → BoundedTop k settled exceeds ps (then_some b i)
+    go true test i-in = bound.some (points_at ps i) (has_get_or ps i (integer (pos 0)) i-in) (passes _ (sym test))
     go false test i-in =
         bound.none (All-from_get_or (λ p. Positive settled exceeds p → ⊥) ps (integer (pos 0))
         (λ m l t. clash (exceeds (settled (points_at ps i)) (settled (integer (pos 0)))) (sym test) (bound.some (points_at ps m) (has_get_or ps m (integer (pos 0)) l) t).0))
-
--- x stands at the index i of the first greatest, and b says whether it exceeds the integer score 0
-pub top : {S : Type 0} (k : ℕ) (settled : Points → S) (exceeds : S → S → Bool) (scores : List S) (i : ℕ) (x : S) (b : Bool)
-    → x ≡ get_or scores i x → b ≡ exceeds x (settled (integer (pos 0)))
-    → Some i ≡ first_greatest exceeds scores → FirstGreatest exceeds scores i → WhereSettled settled scores (λ ps. Bounded k settled exceeds ps i)
-    → (cond b (Some i) None ≡ top_candidate exceeds (settled (integer (pos 0))) scores) × WhereSettled settled scores (λ ps. BoundedTop k settled exceeds ps (cond b (Some i) None))
-top k settled exceeds scores i x b at test value first bound = (
-  top-some exceeds (settled (integer (pos 0))) x scores i b first.0 at test value,
-  λ ps within e. top-bounded k settled exceeds x scores i b first.0 at test ps e (bound ps within e),
-)

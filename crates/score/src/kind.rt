@@ -11,11 +11,8 @@ pub trait ScoreKind: Copy {
     // The distance step.
     const STEP: u16;
 
-    // the constant, for contracts
+    // the constant, for the contracts and the laws
     ghost STEP: { ℕ };
-
-    // the step of the laws
-    ghost step: { ℕ };
 
     ghost settled: { Points → Self };
 
@@ -23,17 +20,21 @@ pub trait ScoreKind: Copy {
 
     // The distance step, for code that is generic over the kind.
     fn distance_step() -> u16
-        ensures { result ≡ step };
+        ensures { result ≡ STEP }
+    {
+        Self::STEP
+    }
 
     fn settle(p: Points) -> Self
         ensures { result ≡ settled (in_range_or_zero p) };
 
+    // Not PartialOrd: its laws want == wherever neither exceeds, as at 6 / 1 and 12 / 2, so each kind would write == by hand too.
     fn exceeds(self, other: Self) -> bool
         ensures { result ≡ exceeds self other };
 
-    ghost small: { step < 1024 };
+    ghost small: { STEP < 1024 };
 
     ghost order: { Order exceeds };
 
-    ghost distance: { Distance step settled exceeds };
+    ghost distance: { Distance STEP settled exceeds };
 }

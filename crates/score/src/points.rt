@@ -16,7 +16,7 @@ impl Points {
         ensures { result ≡ integer v }
     {
         Points {
-            h: 2 * v as i32,
+            h: 2 * i32::from(v),
             t: 1,
             l: 0,
         }
@@ -26,10 +26,8 @@ impl Points {
     pub fn in_range(self) -> bool
         ensures { result ≡ in_range self }
     {
-        self.h > -2_097_152
-            && self.h < 2_097_152
-            && self.t >= 1
-            && self.t <= 131_072
+        (-2_097_151..2_097_152).contains(&self.h)
+            && (1..=131_072).contains(&self.t)
             && self.l < 8_388_608
     }
 

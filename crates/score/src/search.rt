@@ -7,45 +7,35 @@ ghost use Rattle.score.specs.Choice.{WhereSettled, Bounded, BoundedTop};
 use crate::kind::ScoreKind;
 use crate::points::Points;
 
-// The index `new` if its score a exceeds the score b at `old`, else `old`: of equal scores the earlier one stays.
-fn greater<K: ScoreKind>(a: K, new: usize, b: K, old: usize) -> usize
-    ensures { result ≡ (if K.ScoreKind.exceeds a b then new else old) }
+// The later of two scores with their indices if it exceeds the earlier one, else the earlier: of equal scores it stays.
+fn greater<K: ScoreKind>(old: (usize, K), new: (usize, K)) -> (usize, K)
+    ensures { result ≡ (if K.exceeds new.1 old.1 then new else old) }
 {
-    if a.exceeds(b) { new } else { old }
+    if new.1.exceeds(old.1) { new } else { old }
 }
 
 // The first index whose score none exceeds.
 pub fn first_greatest<K: ScoreKind>(scores: &[K]) -> Option<usize>
-    ensures value { result ≡ first_greatest K.ScoreKind.exceeds scores.now }
-    ensures greatest { MatchOption result (length scores.now ≡ 0) (λ i. FirstGreatest K.ScoreKind.exceeds scores.now i) }
-    ensures bounded { WhereSettled K.ScoreKind.settled scores.now (λ ps. MatchOption result (length ps ≡ 0) (λ i. Bounded K.ScoreKind.step K.ScoreKind.settled K.ScoreKind.exceeds ps i)) }
+    ensures value { result ≡ first_greatest K.exceeds scores.now }
+    ensures greatest { MatchOption result (length scores.now ≡ 0) (λ i. FirstGreatest K.exceeds scores.now i) }
+    ensures bounded { WhereSettled K.settled scores.now (λ ps. MatchOption result (length ps ≡ 0) (λ i. Bounded K.STEP K.settled K.exceeds ps i)) }
 {
-    if scores.len() == 0 {
-        return None;
-    }
-    let mut best = 0;
-    for i in 1..scores.len() {
-        best = greater(scores[i], i, scores[best], best);
-    }
-    Some(best)
+    let (index, _) = scores.iter().copied().enumerate().reduce(greater)?;
+    Some(index)
 }
 
 // Whether the score exceeds the integer score 0.
 pub fn exceeds_zero<K: ScoreKind>(score: K) -> bool
-    ensures { result ≡ K.ScoreKind.exceeds score (K.ScoreKind.settled (integer (pos 0))) }
+    ensures { result ≡ K.exceeds score (K.settled (integer (pos 0))) }
 {
     score.exceeds(K::settle(Points::integer(0)))
 }
 
 // The first greatest, if it exceeds the integer score 0.
 pub fn top_candidate<K: ScoreKind>(scores: &[K]) -> Option<usize>
-    ensures value { result ≡ top_candidate K.ScoreKind.exceeds (K.ScoreKind.settled (integer (pos 0))) scores.now }
-    ensures bounded { WhereSettled K.ScoreKind.settled scores.now (λ ps. BoundedTop K.ScoreKind.step K.ScoreKind.settled K.ScoreKind.exceeds ps result) }
+    ensures value { result ≡ top_candidate K.exceeds (K.settled (integer (pos 0))) scores.now }
+    ensures bounded { WhereSettled K.settled scores.now (λ ps. BoundedTop K.STEP K.settled K.exceeds ps result) }
 {
     let i = first_greatest(scores)?;
-    if exceeds_zero(scores[i]) {
-        Some(i)
-    } else {
-        None
-    }
+    exceeds_zero(scores[i]).then_some(i)
 }

@@ -6,37 +6,36 @@ use fraction::Fraction;
 use rounded::Rounded;
 use score::{Points, ScoreKind, first_greatest, top_candidate};
 use std::alloc::Global;
+use std::fmt;
 
-// The points on a line.
+// The points on a line. Numbers at its end that make no three are passed over.
 fn points_of(heap: Global, line: &str) -> anyhow::Result<Vec<Points>> {
     let mut numbers: Vec<i64> = Vec::new(heap);
     for word in line.split_whitespace() {
-        numbers.push(word.parse::<i64>()?)?;
+        numbers.push(word.parse()?)?;
     }
     let mut points = Vec::new(heap);
-    for k in 0..numbers.len() / 3 {
+    let (triples, _) = numbers.as_chunks::<3>();
+    for &[h, t, l] in triples {
         points.push(Points {
-            h: i32::try_from(numbers[3 * k])?,
-            t: u32::try_from(numbers[3 * k + 1])?,
-            l: u32::try_from(numbers[3 * k + 2])?,
+            h: h.try_into()?,
+            t: t.try_into()?,
+            l: l.try_into()?,
         })?;
     }
     Ok(points)
 }
 
-// The scores of the points, of either kind.
-fn scores_of<K: ScoreKind>(heap: Global, points: &[Points]) -> anyhow::Result<Vec<K>> {
-    let mut scores = Vec::new(heap);
-    for p in points {
-        scores.push(K::settle(*p))?;
-    }
-    Ok(scores)
-}
+// An index, or `-`.
+#[derive(Drop)]
+struct Index(Option<usize>);
 
-fn shown(heap: Global, index: Option<usize>) -> anyhow::Result<String> {
-    match index {
-        Some(i) => Ok(format!(in heap; "{i}")?),
-        None => Ok(format!(in heap; "-")?),
+impl fmt::Display for Index {
+    fn fmt<W: fmt::Write>(&self, f: &mut fmt::Formatter<W>) -> fmt::Result {
+        match self.0 {
+            Some(i) => write!(f, "{i}"),
+            None => write!(f, "-"),
+        }
     }
 }
 
@@ -46,17 +45,23 @@ fn bits_of(p: Points) -> u32 {
 }
 
 fn show(rt: &HostRuntime, points: &[Points]) -> anyhow::Result<()> {
-    let heap = rt.alloc();
     for p in points {
-        let bits = bits_of(*p);
-        print!(rt; "{bits:08x} ")?;
+        print!(rt; "{:08x} ", bits_of(*p))?;
     }
-    let rounded: Vec<Rounded> = scores_of(heap, points)?;
-    let fractions: Vec<Fraction> = scores_of(heap, points)?;
-    let a = shown(heap, first_greatest(rounded.as_slice()))?;
-    let b = shown(heap, first_greatest(fractions.as_slice()))?;
-    let c = shown(heap, top_candidate(rounded.as_slice()))?;
-    let d = shown(heap, top_candidate(fractions.as_slice()))?;
+    let rounded: Vec<Rounded> = points
+        .iter()
+        .copied()
+        .map(Rounded::settle)
+        .collect(rt.alloc())?;
+    let fractions: Vec<Fraction> = points
+        .iter()
+        .copied()
+        .map(Fraction::settle)
+        .collect(rt.alloc())?;
+    let a = Index(first_greatest(&rounded));
+    let b = Index(first_greatest(&fractions));
+    let c = Index(top_candidate(&rounded));
+    let d = Index(top_candidate(&fractions));
     println!(rt; "first {a} {b} top {c} {d}")?;
     Ok(())
 }
@@ -64,8 +69,8 @@ fn show(rt: &HostRuntime, points: &[Points]) -> anyhow::Result<()> {
 fn main(rt: HostRuntime) -> anyhow::Result<()> {
     for line in rt.lines(rt.alloc()) {
         let line = line?;
-        let points = points_of(rt.alloc(), line.as_str())?;
-        show(&rt, points.as_slice())?;
+        let points = points_of(rt.alloc(), &line)?;
+        show(&rt, &points)?;
     }
     Ok(())
 }

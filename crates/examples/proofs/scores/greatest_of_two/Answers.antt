@@ -1,5 +1,6 @@
-use Rattle.std.proofs.Common.{◌≡◌, ℕ, Bool, [], ◌∷◌, Some, Option, refl, ap, ◌∙◌}
+use Rattle.std.proofs.Common.{◌≡◌, [], ◌∷◌, Some, refl, ◌∙◌, arith}
 use lib.Ieee.{of_bits, of_int, div, sub, mul, round, lt}
+use Rattle.std.proofs.lemmas.Grind.{common_steps}
 use Rattle.std.specs.Float.{float_is_finite}
 use Rattle.score.specs.Greatest.{first_greatest}
 use Rattle.rounded.specs.Roundeds as rounded
@@ -18,16 +19,10 @@ ranked : RankedDifferently
 unfolding of_bits of_int div sub mul round lt float_is_finite
 ranked = (refl, refl, refl, refl)
 
--- the search's answer, at what was settled
-settled : {S : Type 0} (exceeds : S → S → Bool) (x y a b : S) (r o : Option ℕ) → x ≡ a → y ≡ b → r ≡ first_greatest exceeds (x ∷ y ∷ []) → first_greatest exceeds (a ∷ b ∷ []) ≡ o → r ≡ o
-settled {S} exceeds x y a b r o e f g h = g ∙ ap (λ (z : S). first_greatest exceeds (z ∷ y ∷ [])) e ∙ ap (λ (z : S). first_greatest exceeds (a ∷ z ∷ [])) f ∙ h
-
 pub returns : goal.returns
 returns c =
-    let p : c.first_greatest-rounded.result ≡ Some 1 =
-    settled rounded.greater c.settle.result c.settle-2.result (rounded.rounded linked) (rounded.rounded plain) c.first_greatest-rounded.result (Some 1)
-    c.settle.ensures.value c.settle-2.ensures.value c.first_greatest-rounded.ensures.value of-rounded in
-    let q : c.first_greatest-exact.result ≡ Some 0 =
-    settled fraction.greater c.settle-3.result c.settle-4.result (fraction.fraction linked) (fraction.fraction plain) c.first_greatest-exact.result (Some 0)
-    c.settle-3.ensures c.settle-4.ensures c.first_greatest-exact.ensures.value of-fractions in
+    let r : c.map.result ≡ rounded.rounded linked ∷ rounded.rounded plain ∷ [] = grind (arith, common_steps) in
+    let e : c.map-2.result ≡ fraction.fraction linked ∷ fraction.fraction plain ∷ [] = grind (arith, common_steps) in
+    let p = (rw r at c.first_greatest-rounded.ensures.value) ∙ of-rounded in
+    let q = (rw e at c.first_greatest-exact.ensures.value) ∙ of-fractions in
     record { value = cc; ranked = ranked }
