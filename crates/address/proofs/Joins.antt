@@ -42,7 +42,7 @@ never-full b r size l k e = go (joinable r) refl e
         let ok : join_answer (Some (resolved b r)) size ≡ Ok (length (resolved b r)) = ap (λ o. ok_or o Room) (cond-true (leb (length (resolved b r)) size) _ _ fits) in
         let z : ◌≡◌ {A = ℕ} 0 1 = cc in
         omega arith
-    go false f g = let z : ◌≡◌ {A = ℕ} 0 1 = cc in omega arith
+    go false f g = cc
 
 -- a value as written is the value or as short as a joined one
 pub written-fits : (b v : List ℕ) (size : ℕ) → length b ≤ 2000 → length v ≤ size → 4049 ≤ size → is_some (write_answer (written b v) size) ≡ true

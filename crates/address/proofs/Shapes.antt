@@ -40,10 +40,10 @@ bytes-free [] h = tt
 bytes-free (b ∷ bs) h = let p = and_parts (scheme_byte b) (each scheme_byte bs) h in (byte-free b p.0, bytes-free bs p.1)
 
 name_free : (n : List ℕ) → is_scheme_name n ≡ true → (n ≡ [] → ⊥) × Without (codes ":/?#") n
-name_free [] h = absurd (let z : ◌≡◌ {A = ℕ} 0 1 = cc in omega arith)
+name_free [] h = absurd cc
 name_free (b ∷ bs) h =
     let p = and_parts (letter b) (each scheme_byte bs) h in
-    (λ e. let z : ◌≡◌ {A = ℕ} 0 1 = cc in omega arith, (letter-free b p.0, bytes-free bs p.1))
+    (λ e. cc, (letter-free b p.0, bytes-free bs p.1))
 
 -- from the components to the bytes
 from_parts : (bs : List ℕ) (p : Parts) → recompose p ≡ bs → Formed p → length bs ≤ 2000 → AllByRecursion (λ b. (33 ≤ b) × (b ≤ 126)) bs → shaped p ≡ true → Shaped bs
@@ -56,13 +56,13 @@ from_parts bs p whole h few vis e =
     z = led (codes "?") p.query ++ led (codes "#") p.fragment
 
     some : (a : List ℕ) → not (is_empty a) ≡ true → a ≡ [] → ⊥
-    some [] e f = let y : ◌≡◌ {A = ℕ} 0 1 = cc in omega arith
-    some (x ∷ a) e f = let y : ◌≡◌ {A = ℕ} 0 1 = cc in omega arith
+    some [] e f = cc
+    some (x ∷ a) e f = cc
 
     go : (s a o : Option (List ℕ)) → p.scheme ≡ s → p.authority ≡ a → after (codes "/") p.path ≡ o → is_scheme s ≡ true → is_authority a ≡ true → is_some o ≡ true → Shaped bs
-    go None a o f g k x y w = absurd (let v : ◌≡◌ {A = ℕ} 0 1 = cc in omega arith)
-    go (Some n) None o f g k x y w = absurd (let v : ◌≡◌ {A = ℕ} 0 1 = cc in omega arith)
-    go (Some n) (Some a) None f g k x y w = absurd (let v : ◌≡◌ {A = ℕ} 0 1 = cc in omega arith)
+    go None a o f g k x y w = absurd cc
+    go (Some n) None o f g k x y w = absurd cc
+    go (Some n) (Some a) None f g k x y w = absurd cc
     go (Some n) (Some a) (Some more) f g k x y w =
         record {
           short = few;
