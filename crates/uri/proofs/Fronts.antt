@@ -7,7 +7,7 @@ use Rattle.std.proofs.lemmas.Iterator.{index_from_first}
 use Rattle.std.specs.List.{AllWithin, HoldsAt, list_any, between}
 use Rattle.std.specs.Option.{option_map}
 use Rattle.uri.specs.Bytes.{among, front, rest, after}
-use Rattle.uri.specs.Dots.{first_segment, behind_segment}
+use Rattle.uri.specs.Dots.{first_segment}
 
 -- a list is its front and its rest
 pub front_rest : (ds bs : List ℕ) → front ds bs ++ rest ds bs ≡ bs
@@ -67,22 +67,15 @@ front_ends ds bs r h =
     let n = index_from_first (λ l. length (front ds l)) (Is ds) (IsNot ds) refl (λ b l e. ap length (cond-true (among ds b) [] (b ∷ front ds l) e)) (λ b l e. ap length (cond-false (among ds b) [] (b ∷ front ds l) e) ∙ sym (add-one (length (front ds l)))) bs r h in
     (ap (λ k. take k bs) (sym n) ∙ take-front ds bs, ap (λ k. drop k bs) (sym n) ∙ drop-front ds bs)
 
--- the first n bytes of the input are its first segment
-pub record SegmentOf (input : List ℕ) (n : ℕ) : Type 0 where
-  pub within : n ≤ length input
-  pub segment : take n input ≡ first_segment input
-  pub behind : drop n input ≡ behind_segment input
+-- the first byte and the front behind it are the first segment
+abbrev pub IsSegment : List ℕ → List ℕ → Type 0
+IsSegment input inner = (1 + length inner ≤ length input) × (take (1 + length inner) input ≡ first_segment input)
 
-pub segment-of : (input : List ℕ) → 0 < length input → SegmentOf input (1 + length (front (codes "/") (between 1 (length input) input)))
+pub segment-of : (input : List ℕ) → 0 < length input → IsSegment input (front (codes "/") (between 1 (length input) input))
 segment-of [] l = absurd (omega arith)
 segment-of (b ∷ bs) l =
-    subst (λ z. SegmentOf (b ∷ bs) (1 + length (front (codes "/") z))) (sym (take_all _ bs (omega arith)))
-    (subst (SegmentOf (b ∷ bs)) (sym (one-add (length (front (codes "/") bs))))
-    (record {
-      within = omega (arith, length-parts (codes "/") bs);
-      segment = ap (λ z. b ∷ z) (take-front (codes "/") bs);
-      behind = drop-front (codes "/") bs;
-    }))
+    subst (λ z. IsSegment (b ∷ bs) (front (codes "/") z)) (sym (take_all _ bs (omega arith)))
+    (omega (arith, length-parts (codes "/") bs), ap (λ n. take n (b ∷ bs)) (one-add (length (front (codes "/") bs))) ∙ ap (λ z. b ∷ z) (take-front (codes "/") bs))
 
 pub first-short : (input : List ℕ) → length (first_segment input) ≤ length input
 first-short [] = omega arith

@@ -22,7 +22,7 @@ fn put_closed(out: &mut Buffer, part: Option<&[u8]>, mark: &[u8])
     }
 }
 
-// Appends a component behind its mark.
+// Appends a component behind its mark, where `put_closed` has the mark behind the component.
 fn put_led(out: &mut Buffer, mark: &[u8], part: Option<&[u8]>)
     requires { HasRoom out.old (led mark.now (option_map (λ x. x.now) part)) }
     ensures { out.new.items ≡ out.old.items ++ led mark.now (option_map (λ x. x.now) part.entry) }

@@ -8,7 +8,6 @@ use crate::buffer::{Buffer, put};
 use crate::parse::cut;
 
 // The rules A to E, by what stands at the front of the input.
-#[derive(Clone, Copy)]
 enum Rule {
     DotDotPrefix,
     DotPrefix,
@@ -58,8 +57,8 @@ fn cut_segment(input: &[u8]) -> (&[u8], &[u8])
     ensures segment { result.0.now ≡ first_segment input.now }
     ensures behind { result.1.now ≡ behind_segment input.now }
 {
-    let inner = cut(&input[1..], b"/").0;
-    input.split_at(1 + inner.len())
+    let (inner, behind) = cut(&input[1..], b"/");
+    (&input[..1 + inner.len()], behind)
 }
 
 // One turn: the first rule that applies to the input. It answers what is left of that.
@@ -91,7 +90,7 @@ fn take_turn<'a>(input: &'a [u8], output: &mut Buffer) -> &'a [u8]
     }
 }
 
-// Appends the path without its dot segments.
+// Appends the path without its dot segments, by the standard's loop: what a turn leaves is the input of the next.
 pub(crate) fn put_without_dots(out: &mut Buffer, path: &[u8])
     requires { HasRoom out.old path.now }
     ensures { out.new.items ≡ out.old.items ++ remove_dots path.now }

@@ -1,11 +1,10 @@
-use Rattle.std.proofs.Common.{◌+◌, length, sym, ◌∙◌, subst}
-use Rattle.uri.proofs.Fronts.{SegmentOf, segment-of}
+use Rattle.std.proofs.Common.{sym, subst}
+use Rattle.std.proofs.lemmas.List.{length-take-le}
+use Rattle.uri.proofs.Fronts.{IsSegment, segment-of}
 use Rattle.uri.proofs.dots.cut_segment.Goals as goal
 
-pub split_at-requires : goal.split_at-requires
-split_at-requires c = (subst (λ z. SegmentOf c.args.input.now (1 + length z)) (sym c.cut.ensures.front) (segment-of c.args.input.now c.requires)).within
+pub slice_bounds-result-end : goal.slice_bounds-result-end
+slice_bounds-result-end c = sym (length-take-le _ c.args.input.now (subst (IsSegment c.args.input.now) (sym c.cut.ensures.front) (segment-of c.args.input.now c.requires)).0)
 
-pub returns : goal.returns
-returns c =
-    let h = subst (λ z. SegmentOf c.args.input.now (1 + length z)) (sym c.cut.ensures.front) (segment-of c.args.input.now c.requires) in
-    record { segment = c.split_at.ensures.front ∙ h.segment; behind = c.split_at.ensures.back ∙ h.behind }
+pub returns-clause-segment : goal.returns-clause-segment
+returns-clause-segment c = (subst (IsSegment c.args.input.now) (sym c.cut.ensures.front) (segment-of c.args.input.now c.requires)).1
