@@ -4,7 +4,10 @@ ghost use Rattle.uri.specs.Write.{HasRoom};
 
 use arrayvec::ArrayVec;
 
-pub(crate) type Buffer = ArrayVec<u8, 4049>;
+// As many bytes as base and reference may have, and one more.
+pub(crate) const ROOM: usize = 4049;
+
+pub(crate) type Buffer = ArrayVec<u8, ROOM>;
 
 // Appends the bytes, for which there must be room.
 pub(crate) fn put(out: &mut Buffer, bytes: &[u8])

@@ -2,7 +2,7 @@
 ghost use Rattle.std.specs.Prelude.{◌≡◌, length};
 ghost use Rattle.uri.specs.Write.{placed, write_answer, resolve_answer, resolve_out, Lawful};
 
-use crate::buffer::Buffer;
+use crate::buffer::{Buffer, ROOM};
 use crate::compose::put_target;
 use crate::parse::split;
 use crate::target::transform;
@@ -27,7 +27,7 @@ pub fn resolve(base: &[u8], reference: &[u8], out: &mut [u8]) -> Option<usize>
     ensures out { out.new ≡ resolve_out base.now reference.now out.old }
     ensures laws { Lawful base.now reference.now result out.new }
 {
-    if base.len() + 1 + reference.len() > 4049 {
+    if base.len() + 1 + reference.len() > ROOM {
         return None;
     }
     let mut target = Buffer::new();
