@@ -1,3 +1,2 @@
-pub mod Each
 pub mod Shapes
 pub mod Joins

@@ -1,14 +1,13 @@
 -- A base by its components is a base by its bytes.
-use Rattle.std.proofs.Common.{◌≡◌, ℕ, ◌≤◌, Bool, true, false, cond, not, ◌&&◌, leb, List, [], ◌∷◌, ◌++◌, length, is_some, IfSome, Some, None, Ok, Err, codes, Decides, Option, Result, sym, refl, ap, ◌∙◌, subst, append_assoc, arith, MatchResult}
+use Rattle.std.proofs.Common.{◌≡◌, ℕ, ◌≤◌, true, false, not, ◌&&◌, leb, List, [], ◌∷◌, ◌++◌, length, get_or, take, drop, ◌-◌, is_some, IfSome, Some, None, codes, Decides, Option, sym, refl, ap, ◌∙◌, subst, append_assoc, arith}
 use Rattle.std.proofs.lemmas.Bool.{both_ways, and_parts, and_from, leb-true, le-leb}
 use Rattle.std.proofs.lemmas.Bool.Decides.{nat_tests}
+use Rattle.std.proofs.lemmas.List.{take_all}
 use Rattle.std.proofs.ByRecursion.{Decides-by_and}
-use Rattle.address.specs.declared.refusal.BaseRefusal.{BaseRefusal}
-use Rattle.address.specs.declared.refusal.BaseRefusal.TheVariants.{NotABase}
-use Rattle.std.specs.List.{AllByRecursion}
+use Rattle.std.specs.List.{AllByRecursion, list_all}
 use Rattle.uri.specs.Bytes.{among, after}
 use Rattle.uri.specs.Components.{Parts, scheme_cut, authority_cut, from_path, components}
-use Rattle.address.specs.Join.{visible, each, letter, scheme_byte, is_scheme_name, is_scheme, is_authority, shaped, is_base}
+use Rattle.address.specs.Join.{visible, letter, scheme_byte, is_scheme_name, is_scheme, is_authority, shaped, is_base}
 use Rattle.uri.specs.Laws.{Formed}
 use Rattle.uri.specs.Resolve.{is_empty, closed, led, recompose}
 use Rattle.uri.specs.Segments.{Without}
@@ -25,8 +24,8 @@ seen b = (
   λ h. and_from (leb 33 b) (leb b 126) (le-leb 33 b h.0) (le-leb b 126 h.1),
 )
 
-all_seen : (bs : List ℕ) → Decides (each visible bs) (AllByRecursion (λ b. (33 ≤ b) × (b ≤ 126)) bs)
-all_seen bs = Decides-by_and visible (λ b. (33 ≤ b) × (b ≤ 126)) (each visible) seen refl (λ _ _. refl) bs
+all_seen : (bs : List ℕ) → Decides (list_all visible bs) (AllByRecursion (λ b. (33 ≤ b) × (b ≤ 126)) bs)
+all_seen bs = Decides-by_and visible (λ b. (33 ≤ b) × (b ≤ 126)) (list_all visible) seen refl (λ _ _. refl) bs
 
 -- a scheme has no delimiter
 letter-free : (b : ℕ) → letter b ≡ true → among (codes ":/?#") b ≡ false
@@ -35,15 +34,19 @@ letter-free b h = grind (arith, nat_tests)
 byte-free : (b : ℕ) → scheme_byte b ≡ true → among (codes ":/?#") b ≡ false
 byte-free b h = grind (arith, nat_tests)
 
-bytes-free : (bs : List ℕ) → each scheme_byte bs ≡ true → Without (codes ":/?#") bs
+bytes-free : (bs : List ℕ) → list_all scheme_byte bs ≡ true → Without (codes ":/?#") bs
 bytes-free [] h = tt
-bytes-free (b ∷ bs) h = let p = and_parts (scheme_byte b) (each scheme_byte bs) h in (byte-free b p.0, bytes-free bs p.1)
+bytes-free (b ∷ bs) h = let p = and_parts (scheme_byte b) (list_all scheme_byte bs) h in (byte-free b p.0, bytes-free bs p.1)
+
+pub scheme-name : (name : List ℕ) → is_scheme_name name ≡ (letter (get_or name 0 0) && list_all scheme_byte (take (length name - 1) (drop 1 name)))
+scheme-name [] = refl
+scheme-name (b ∷ bs) = ap (λ z. letter b && list_all scheme_byte z) (sym (take_all _ bs (omega arith)))
 
 name_free : (n : List ℕ) → is_scheme_name n ≡ true → (n ≡ [] → ⊥) × Without (codes ":/?#") n
-name_free [] h = absurd (let z : ◌≡◌ {A = ℕ} 0 1 = cc in omega arith)
+name_free [] h = absurd cc
 name_free (b ∷ bs) h =
-    let p = and_parts (letter b) (each scheme_byte bs) h in
-    (λ e. let z : ◌≡◌ {A = ℕ} 0 1 = cc in omega arith, (letter-free b p.0, bytes-free bs p.1))
+    let p = and_parts (letter b) (list_all scheme_byte bs) h in
+    (λ e. cc, (letter-free b p.0, bytes-free bs p.1))
 
 -- from the components to the bytes
 from_parts : (bs : List ℕ) (p : Parts) → recompose p ≡ bs → Formed p → length bs ≤ 2000 → AllByRecursion (λ b. (33 ≤ b) × (b ≤ 126)) bs → shaped p ≡ true → Shaped bs
@@ -56,13 +59,13 @@ from_parts bs p whole h few vis e =
     z = led (codes "?") p.query ++ led (codes "#") p.fragment
 
     some : (a : List ℕ) → not (is_empty a) ≡ true → a ≡ [] → ⊥
-    some [] e f = let y : ◌≡◌ {A = ℕ} 0 1 = cc in omega arith
-    some (x ∷ a) e f = let y : ◌≡◌ {A = ℕ} 0 1 = cc in omega arith
+    some [] e f = cc
+    some (x ∷ a) e f = cc
 
     go : (s a o : Option (List ℕ)) → p.scheme ≡ s → p.authority ≡ a → after (codes "/") p.path ≡ o → is_scheme s ≡ true → is_authority a ≡ true → is_some o ≡ true → Shaped bs
-    go None a o f g k x y w = absurd (let v : ◌≡◌ {A = ℕ} 0 1 = cc in omega arith)
-    go (Some n) None o f g k x y w = absurd (let v : ◌≡◌ {A = ℕ} 0 1 = cc in omega arith)
-    go (Some n) (Some a) None f g k x y w = absurd (let v : ◌≡◌ {A = ℕ} 0 1 = cc in omega arith)
+    go None a o f g k x y w = absurd cc
+    go (Some n) None o f g k x y w = absurd cc
+    go (Some n) (Some a) None f g k x y w = absurd cc
     go (Some n) (Some a) (Some more) f g k x y w =
         record {
           short = few;
@@ -81,10 +84,10 @@ from_parts bs p whole h few vis e =
           only_host = subst (λ c. IfSome c (Without (codes "/?#"))) g h.authority;
         }
 
-pub base-shaped : (bs : List ℕ) → is_base bs ≡ true → Shaped bs
-base-shaped bs e =
-    let p = and_parts (leb (length bs) 2000) (each visible bs && shaped (components bs)) e in
-    let q = and_parts (each visible bs) (shaped (components bs)) p.1 in
+pub base_shape : (bs : List ℕ) → is_base bs ≡ true → Shaped bs
+base_shape bs e =
+    let p = and_parts (leb (length bs) 2000) (list_all visible bs && shaped (components bs)) e in
+    let q = and_parts (list_all visible bs) (shaped (components bs)) p.1 in
     from_parts bs (components bs) (recompose-components bs) (components-formed bs) (leb-true (length bs) 2000 p.0) ((all_seen bs).0 q.0) q.1
 
 -- and back
@@ -100,15 +103,10 @@ to-parts bs n a more whole s some only =
     some_is [] h = absurd (h refl)
     some_is (x ∷ a) h = refl
 
-pub shaped-base : (bs : List ℕ) → Shaped bs → is_base bs ≡ true
+shaped-base : (bs : List ℕ) → Shaped bs → is_base bs ≡ true
 shaped-base bs h =
-    and_from (leb (length bs) 2000) (each visible bs && shaped (components bs)) (le-leb (length bs) 2000 h.short)
-    (and_from (each visible bs) (shaped (components bs)) ((all_seen bs).1 h.visible) (to-parts bs h.name h.host h.more h.whole h.is_scheme h.some_host h.only_host))
+    and_from (leb (length bs) 2000) (list_all visible bs && shaped (components bs)) (le-leb (length bs) 2000 h.short)
+    (and_from (list_all visible bs) (shaped (components bs)) ((all_seen bs).1 h.visible) (to-parts bs h.name h.host h.more h.whole h.is_scheme h.some_host h.only_host))
 
--- what filling a base answers says whether the bytes are one
-pub filled : (bs : List ℕ) (r : Result (Unit {0}) BaseRefusal) → r ≡ cond (is_base bs) (Ok tt) (Err NotABase) → MatchResult r (λ _. Shaped bs) (λ _. Shaped bs → ⊥)
-filled bs r e = subst (λ z. MatchResult z (λ _. Shaped bs) (λ _. Shaped bs → ⊥)) (sym e) (go (is_base bs) refl)
-  where
-    go : (t : Bool) → is_base bs ≡ t → MatchResult (cond t (Ok (tt {0})) (Err NotABase)) (λ _. Shaped bs) (λ _. Shaped bs → ⊥)
-    go true f = base-shaped bs f
-    go false f = λ h. both_ways (is_base bs) f (shaped-base bs h)
+pub refused_shape : (bs : List ℕ) → is_base bs ≡ false → Shaped bs → ⊥
+refused_shape bs f h = both_ways (is_base bs) f (shaped-base bs h)

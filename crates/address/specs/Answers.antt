@@ -9,7 +9,7 @@ use Rattle.address.specs.declared.joining.NoJoin.TheVariants.{Reference, Room}
 
 -- the bytes of a base
 abbrev pub bytes_of : Base → List ℕ
-bytes_of b = take b.len b.bytes
+bytes_of b = b.bytes.items
 
 -- joining writes nothing where it gives nothing or where there is no room
 abbrev pub join_answer : Option (List ℕ) → ℕ → Result ℕ NoJoin

@@ -1,5 +1,6 @@
 -- Bases, joining, and the value as it is written.
-use Rattle.std.specs.Prelude.{ℕ, Bool, true, false, cond, not, ◌&&◌, ◌||◌, List, [], ◌∷◌, length, is_some, Some, None, codes, Option, nat_le}
+use Rattle.std.specs.Prelude.{ℕ, Bool, false, cond, not, ◌&&◌, ◌||◌, List, [], ◌∷◌, length, is_some, Some, None, codes, Option, nat_le}
+use Rattle.std.specs.List.{list_all}
 use Rattle.std.specs.Option.{unwrap_or}
 use Rattle.uri.specs.Bytes.{among, after}
 use Rattle.uri.specs.Components.{Parts, components}
@@ -8,11 +9,6 @@ use Rattle.uri.specs.Resolve.{resolved, is_empty}
 -- a byte from 33 to 126
 abbrev pub visible : ℕ → Bool
 visible b = nat_le 33 b && nat_le b 126
-
--- whether a test passes at each byte
-abbrev pub each : (ℕ → Bool) → List ℕ → Bool
-each test [] = true
-each test (b ∷ bs) = test b && each test bs
 
 -- the scheme of RFC 3986, section 3.1: a letter, then letters, digits, "+", "-" and "."
 abbrev pub letter : ℕ → Bool
@@ -23,7 +19,7 @@ scheme_byte b = letter b || ((nat_le 48 b && nat_le b 57) || among (codes "+-.")
 
 abbrev pub is_scheme_name : List ℕ → Bool
 is_scheme_name [] = false
-is_scheme_name (b ∷ bs) = letter b && each scheme_byte bs
+is_scheme_name (b ∷ bs) = letter b && list_all scheme_byte bs
 
 abbrev pub is_scheme : Option (List ℕ) → Bool
 is_scheme None = false
@@ -38,11 +34,11 @@ abbrev pub shaped : Parts → Bool
 shaped p = is_scheme p.scheme && (is_authority p.authority && is_some (after (codes "/") p.path))
 
 abbrev pub is_base : List ℕ → Bool
-is_base bs = nat_le (length bs) 2000 && (each visible bs && shaped (components bs))
+is_base bs = nat_le (length bs) 2000 && (list_all visible bs && shaped (components bs))
 
 -- a reference that can be joined: at most 2,048 bytes from 33 to 126
 abbrev pub joinable : List ℕ → Bool
-joinable r = nat_le (length r) 2048 && each visible r
+joinable r = nat_le (length r) 2048 && list_all visible r
 
 -- joining gives nothing for any other
 abbrev pub joined : List ℕ → List ℕ → Option (List ℕ)

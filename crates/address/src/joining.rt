@@ -5,10 +5,9 @@ ghost use Rattle.uri.specs.Bytes.{after};
 ghost use Rattle.uri.specs.Resolve.{resolved};
 ghost use Rattle.address.specs.Join.{joinable, joined, stays_as_is, written};
 ghost use Rattle.address.specs.Answers.{bytes_of, join_answer, join_out, Lawful};
-ghost use Rattle.uri.specs.Write.{placed, write_answer};
+ghost use Rattle.uri.specs.Write.{placed, write_answer, Lawful as Resolved};
 
-use crate::base::Base;
-use crate::charset::{Charset, all_in};
+use crate::base::{Base, is_visible};
 use uri::{resolve, write_bytes};
 
 // Why nothing was written.
@@ -21,7 +20,7 @@ pub enum NoJoin {
 fn is_joinable(reference: &[u8]) -> bool
     ensures { result ≡ joinable reference.now }
 {
-    reference.len() <= 2048 && all_in(reference, Charset::Visible)
+    reference.len() <= 2048 && is_visible(reference)
 }
 
 // Whether "://" or "s://" follows.
@@ -51,18 +50,10 @@ fn write_resolved(base: &Base, reference: &[u8], out: &mut [u8]) -> Option<usize
     requires { length reference.now ≤ 2048 }
     ensures answer { result ≡ write_answer (resolved (bytes_of base.now) reference.now) (length out.old) }
     ensures out { out.new ≡ placed (resolved (bytes_of base.now) reference.now) out.old }
+    ensures laws { Resolved (bytes_of base.now) reference.now result out.new }
+    ensures room { 4049 ≤ length out.old → is_some result ≡ true }
 {
     resolve(base.bytes(), reference, out)
-}
-
-fn join_into(base: &Base, reference: &[u8], out: &mut [u8]) -> Result<usize, NoJoin>
-    ensures answer { result ≡ join_answer (joined (bytes_of base.now) reference.now) (length out.old) }
-    ensures out { out.new ≡ join_out (joined (bytes_of base.now) reference.now) out.old }
-{
-    if !is_joinable(reference) {
-        return Err(NoJoin::Reference);
-    }
-    write_resolved(base, reference, out).ok_or(NoJoin::Room)
 }
 
 // Joins the reference to the base, and writes the result to the buffer's front; answers its length.
@@ -72,20 +63,10 @@ pub fn join(base: &Base, reference: &[u8], out: &mut [u8]) -> Result<usize, NoJo
     ensures laws { Lawful (bytes_of base.now) reference.now result out.new }
     ensures room { 4049 ≤ length out.old → result ≢ Err Room }
 {
-    join_into(base, reference, out)
-}
-
-fn value_into(base: &Base, value: &[u8], out: &mut [u8]) -> Option<usize>
-    ensures answer { result ≡ write_answer (written (bytes_of base.now) value.now) (length out.old) }
-    ensures out { out.new ≡ placed (written (bytes_of base.now) value.now) out.old }
-{
-    if stays(value) {
-        return write_bytes(value, out);
+    if !is_joinable(reference) {
+        return Err(NoJoin::Reference);
     }
-    if is_joinable(value) {
-        return write_resolved(base, value, out);
-    }
-    write_bytes(value, out)
+    write_resolved(base, reference, out).ok_or(NoJoin::Room)
 }
 
 // Writes a value to the buffer's front, joined to the base unless it stays; answers its length, or nothing where there is no room.
@@ -94,5 +75,8 @@ pub fn write_value(base: &Base, value: &[u8], out: &mut [u8]) -> Option<usize>
     ensures out { out.new ≡ placed (written (bytes_of base.now) value.now) out.old }
     ensures room { length value.now ≤ length out.old → 4049 ≤ length out.old → is_some result ≡ true }
 {
-    value_into(base, value, out)
+    if !stays(value) && is_joinable(value) {
+        return write_resolved(base, value, out);
+    }
+    write_bytes(value, out)
 }

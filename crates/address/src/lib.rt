@@ -2,7 +2,6 @@
 #![tactic(auto)]
 
 mod base;
-mod charset;
 mod fill;
 mod joining;
 mod refusal;

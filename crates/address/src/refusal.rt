@@ -17,7 +17,7 @@ impl BaseRefusal {
         }
     }
 
-    // The record that it names: none.
+    // Each refusal is reported with a record, and 0 stands for none.
     pub fn record(self) -> usize
         ensures { result ≡ record_of self }
     {

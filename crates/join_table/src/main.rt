@@ -8,28 +8,16 @@ use std::io::{BufRead, BufReader, Write};
 
 // What stands before the first tab, and what stands behind it.
 fn at_tab(line: &[u8]) -> (&[u8], &[u8]) {
-    for (i, b) in line.iter().enumerate() {
-        if *b == b'\t' {
-            return (&line[0..i], &line[i + 1..]);
-        }
-    }
-    (line, &line[0..0])
-}
-
-fn print_joined(rt: &HostRuntime, base: &Base, value: &[u8]) -> io::Result<()> {
-    let mut out = [0; 4049];
-    match join(base, value, &mut out) {
-        Ok(n) if n <= 4049 => rt.stdout().write_all(&out[0..n]),
-        _ => rt.stdout().write_all(b"nothing"),
+    match line.iter().position(|b| *b == b'\t') {
+        Some(i) => (&line[..i], &line[i + 1..]),
+        None => (line, b""),
     }
 }
 
-fn print_written(rt: &HostRuntime, base: &Base, value: &[u8]) -> io::Result<()> {
-    let mut out = [0; 4049];
-    match write_value(base, value, &mut out) {
-        Some(n) if n <= 4049 => rt.stdout().write_all(&out[0..n]),
-        _ => rt.stdout().write_all(b"no room"),
-    }
+// Prints the buffer's front of the length that was answered, or what stands for no answer.
+fn print_front(rt: &HostRuntime, out: &[u8], answer: Option<usize>, none: &[u8]) -> io::Result<()> {
+    let front = answer.and_then(|n| out.get(..n));
+    rt.stdout().write_all(front.unwrap_or(none))
 }
 
 fn print_line(rt: &HostRuntime, base: &mut Base, line: &[u8]) -> io::Result<()> {
@@ -37,11 +25,14 @@ fn print_line(rt: &HostRuntime, base: &mut Base, line: &[u8]) -> io::Result<()> 
     if let Err(e) = base.fill(bytes) {
         return println!(rt; "refused {} {}", e.number(), e.record());
     }
+    let mut out = [0; 4049];
     let way = if stays(value) { "stays" } else { "joins" };
     print!(rt; "{way}\t")?;
-    print_joined(rt, base, value)?;
+    let joined = join(base, value, &mut out).ok();
+    print_front(rt, &out, joined, b"nothing")?;
     print!(rt; "\t")?;
-    print_written(rt, base, value)?;
+    let written = write_value(base, value, &mut out);
+    print_front(rt, &out, written, b"no room")?;
     println!(rt; "")
 }
 

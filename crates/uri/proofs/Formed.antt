@@ -19,7 +19,7 @@ use Rattle.uri.proofs.Targets.{by-scheme, by-authority, by-empty, by-path}
 named-formed : (n : List ℕ) (o : Option (List ℕ)) (bs : List ℕ) → Without (codes ":/?#") n → IfSome (named n o bs).0 (λ s. (s ≡ [] → ⊥) × Without (codes ":/?#") s)
 named-formed [] o bs h = tt
 named-formed (x ∷ n) None bs h = tt
-named-formed (x ∷ n) (Some y) bs h = (λ e. let z : ◌≡◌ {A = ℕ} 0 1 = cc in omega arith, h)
+named-formed (x ∷ n) (Some y) bs h = (λ e. cc, h)
 
 opened-formed : (ds : List ℕ) (o : Option (List ℕ)) (bs : List ℕ) → IfSome (opened ds o bs).0 (Without ds)
 opened-formed ds None bs = tt
@@ -33,10 +33,10 @@ front-slash (b ∷ bs) h = go (eqb b 47) (among (codes "?#") b) refl h
     go : (t u : Bool) → eqb b 47 ≡ t → (t || u) ≡ true → Begins (codes "/") (cond u [] (b ∷ front (codes "?#") bs))
     go t true e k = tt
     go true false e k = ap (λ z. z || false) e
-    go false false e k = absurd (let z : ◌≡◌ {A = ℕ} 0 1 = cc in omega arith)
+    go false false e k = absurd cc
 
 opened-behind : (o : Option (List ℕ)) (bs : List ℕ) → is_some (opened (codes "/?#") o bs).0 ≡ true → Begins (codes "/?#") (opened (codes "/?#") o bs).1
-opened-behind None bs e = absurd (let z : ◌≡◌ {A = ℕ} 0 1 = cc in omega arith)
+opened-behind None bs e = absurd cc
 opened-behind (Some inner) bs e = rest-begins (codes "/?#") inner
 
 pub components-formed : (bs : List ℕ) → Formed (components bs)
@@ -60,11 +60,11 @@ no_scheme bs none (x ∷ s) more h e =
     ap (λ z. (scheme_cut z).0) e
     ∙ (ap (λ y. (named y (after (codes ":") (rest (codes ":/?#") ((x ∷ s) ++ 58 ∷ more))) ((x ∷ s) ++ 58 ∷ more)).0) f.0
     ∙ ap (λ y. (named (x ∷ s) (after (codes ":") y) ((x ∷ s) ++ 58 ∷ more)).0) f.1) in
-    absurd (let z : ◌≡◌ {A = ℕ} 0 1 = cc in omega arith)
+    absurd cc
 
 opened-none : (ds : List ℕ) (o : Option (List ℕ)) (bs : List ℕ) → (opened ds o bs).0 ≡ None → o ≡ None
 opened-none ds None bs e = refl
-opened-none ds (Some x) bs e = absurd (let z : ◌≡◌ {A = ℕ} 0 1 = cc in omega arith)
+opened-none ds (Some x) bs e = absurd cc
 
 no_authority : (bs : List ℕ) → (authority_cut (scheme_cut bs).1).0 ≡ None → (more : List ℕ) → bs ≡ closed (scheme_cut bs).0 (codes ":") ++ (codes "//" ++ more) → ⊥
 no_authority bs none more e =
@@ -75,8 +75,11 @@ no_authority bs none more e =
     let z : ◌≡◌ {A = ℕ} 0 1 = cc in
     omega arith
 
-pub components-matched : (bs : List ℕ) → Matched bs (components bs)
+components-matched : (bs : List ℕ) → Matched bs (components bs)
 components-matched bs = record { whole = recompose-components bs; formed = components-formed bs; no_scheme = no_scheme bs; no_authority = no_authority bs }
+
+pub matched_by : (bs : List ℕ) (p : Parts) → p ≡ components bs → Matched bs p
+matched_by bs p e = subst (Matched bs) (sym e) (components-matched bs)
 
 -- the front of a merged path
 merge-without : (ds : List ℕ) (a : Option (List ℕ)) (path : List ℕ) → among ds 47 ≡ false → Without ds path → Without ds (merge_front a path)
@@ -100,14 +103,14 @@ front-of-without base path h = go (is_some (after (codes "/") path))
 
 -- with an authority a merged path begins with a slash
 merge-slash : (a : Option (List ℕ)) (path more : List ℕ) → is_some a ≡ true → Begins (codes "/") path → Begins (codes "/") (merge_front a path ++ more)
-merge-slash None path more e h = absurd (let z : ◌≡◌ {A = ℕ} 0 1 = cc in omega arith)
+merge-slash None path more e h = absurd cc
 merge-slash (Some x) [] more e h = refl
 merge-slash (Some x) (b ∷ bs) more e h = go (rightmost bs) (eqb b 47) refl h
   where
     go : (o : Option ℕ) (t : Bool) → eqb b 47 ≡ t → (t || false) ≡ true → Begins (codes "/") (through (farther o t) (b ∷ bs) ++ more)
     go (Some i) t f k = h
     go None true f k = h
-    go None false f k = absurd (let z : ◌≡◌ {A = ℕ} 0 1 = cc in omega arith)
+    go None false f k = absurd cc
 
 slash-first : (path : List ℕ) → is_some (after (codes "/") path) ≡ true → Begins (codes "/") path
 slash-first [] e = tt
@@ -115,7 +118,7 @@ slash-first (b ∷ bs) e = go (eqb b 47) refl e
   where
     go : (t : Bool) → eqb b 47 ≡ t → is_some (cond t (Some bs) None) ≡ true → (t || false) ≡ true
     go true f k = refl
-    go false f k = absurd (let z : ◌≡◌ {A = ℕ} 0 1 = cc in omega arith)
+    go false f k = absurd cc
 
 whole-slash : (base : Parts) (path : List ℕ) → Formed base → is_some base.authority ≡ true → Begins (codes "/") (path_front base path ++ path)
 whole-slash base path h e = go (is_some (after (codes "/") path)) refl

@@ -1,50 +1,13 @@
--- A loop over a front, one byte on and at its end.
-use Rattle.std.proofs.Common.{◌≡◌, ℕ, ◌+◌, ◌<◌, ◌≤◌, Bool, true, false, cond, ◌||◌, eqb, List, [], ◌∷◌, ◌++◌, length, get_or, take, drop, Some, None, Option, sym, refl, ap, ◌∙◌, append_assoc, append-nil, arith, Bor, MatchOption}
-use Rattle.std.proofs.lemmas.List.{take_more, drop_more, drop_all, take_at, drop_at, length-append}
-use Rattle.std.proofs.lemmas.Bool.{cond-true, cond-false, eq-eqb, ne_eqb, eqb-true}
+-- Where a front ends, and what follows it.
+use Rattle.std.proofs.Common.{◌≡◌, ℕ, ◌+◌, ◌<◌, ◌≤◌, Bool, true, false, cond, ◌||◌, eqb, List, [], ◌∷◌, ◌++◌, length, take, drop, Some, None, codes, Option, sym, refl, ap, ◌∙◌, add-one, one-add, subst, arith, Bor, MatchOption, unwrap_or}
+use Rattle.std.proofs.lemmas.List.{take_at, drop_at, take_all, length-append}
+use Rattle.std.proofs.lemmas.Bool.{cond-true, cond-false, eq-eqb, eqb-true}
+use Rattle.std.proofs.lemmas.Bool.Decides.{nat_tests}
+use Rattle.std.proofs.lemmas.Iterator.{index_from_first}
+use Rattle.std.specs.List.{AllWithin, HoldsAt, list_any, between}
 use Rattle.std.specs.Option.{option_map}
 use Rattle.uri.specs.Bytes.{among, front, rest, after}
-
--- the front is what was passed and the front of what is left
-pub record Passed (ds bs : List ℕ) (n : ℕ) : Type 0 where
-  pub within : n ≤ length bs
-  pub front_is : front ds bs ≡ take n bs ++ front ds (drop n bs)
-  pub rest_is : rest ds bs ≡ rest ds (drop n bs)
-
-module _ (ds bs : List ℕ) (n : ℕ) where
-  pub pass : n < length bs → among ds (get_or bs n 0) ≡ false → Passed ds bs n → Passed ds bs (n + 1)
-  pass l apart h =
-      let left = drop_more bs n 0 l in
-      record {
-        within = omega arith;
-        front_is =
-            h.front_is
-            ∙ (ap (λ z. take n bs ++ front ds z) left
-            ∙ (ap (λ z. take n bs ++ z) (cond-false (among ds (get_or bs n 0)) [] (get_or bs n 0 ∷ front ds (drop (n + 1) bs)) apart)
-            ∙ (sym (append_assoc (take n bs) (get_or bs n 0 ∷ []) (front ds (drop (n + 1) bs)))
-            ∙ ap (λ z. z ++ front ds (drop (n + 1) bs)) (sym (take_more bs n 0 l)))));
-        rest_is = h.rest_is ∙ (ap (rest ds) left ∙ cond-false (among ds (get_or bs n 0)) _ _ apart);
-      }
-
-  -- where the next byte is one of ds, or there is none
-  stop-at : n < length bs → among ds (get_or bs n 0) ≡ true → (front ds (drop n bs) ≡ []) × (rest ds (drop n bs) ≡ drop n bs)
-  stop-at l yes' =
-      let left = drop_more bs n 0 l in (
-        ap (front ds) left ∙ cond-true (among ds (get_or bs n 0)) _ _ yes',
-        ap (rest ds) left ∙ (cond-true (among ds (get_or bs n 0)) _ _ yes' ∙ sym left),
-      )
-
-  stop-end : length bs ≤ n → (front ds (drop n bs) ≡ []) × (rest ds (drop n bs) ≡ drop n bs)
-  stop-end l = let none = drop_all n bs l in (ap (front ds) none, ap (rest ds) none ∙ sym none)
-
-  stopped : Passed ds bs n → (front ds (drop n bs) ≡ []) × (rest ds (drop n bs) ≡ drop n bs) → (take n bs ≡ front ds bs) × (drop n bs ≡ rest ds bs)
-  stopped h e = (sym (h.front_is ∙ (ap (λ z. take n bs ++ z) e.0 ∙ append-nil (take n bs))), sym (h.rest_is ∙ e.1))
-
-  pub front-stops : Passed ds bs n → n < length bs → among ds (get_or bs n 0) ≡ true → (take n bs ≡ front ds bs) × (drop n bs ≡ rest ds bs)
-  front-stops h l yes' = stopped h (stop-at l yes')
-
-  pub front_ends : Passed ds bs n → length bs ≤ n → (take n bs ≡ front ds bs) × (drop n bs ≡ rest ds bs)
-  front_ends h l = stopped h (stop-end l)
+use Rattle.uri.specs.Dots.{first_segment}
 
 -- a list is its front and its rest
 pub front_rest : (ds bs : List ℕ) → front ds bs ++ rest ds bs ≡ bs
@@ -83,11 +46,37 @@ pub stripped : (bs p : List ℕ) (r : Option (Bor (List ℕ))) → MatchOption r
 stripped bs p None h = sym (after_none p bs h)
 stripped bs p (Some x) h = sym (ap (after p) h ∙ after_front p x.now)
 
--- one byte of ds on
-pub among-more : (ds : List ℕ) (b i : ℕ) → i < length ds → (b ≡ get_or ds i 0 → ⊥) → among (drop i ds) b ≡ among (drop (i + 1) ds) b
-among-more ds b i l apart =
-    ap (λ z. among z b) (drop_more ds i 0 l) ∙ ap (λ t. t || among (drop (i + 1) ds) b) (ne_eqb b (get_or ds i 0) apart)
+-- whether one of ds equals b, in either order
+pub among-any : (ds : List ℕ) (b : ℕ) → list_any (λ d. eqb d b) ds ≡ among ds b
+among-any [] b = refl
+among-any (d ∷ ds) b = ap (λ t. t || list_any (λ e. eqb e b) ds) (both d b) ∙ ap (λ t. eqb b d || t) (among-any ds b)
+  where
+    both : (m n : ℕ) → eqb m n ≡ eqb n m
+    both m n = grind (arith, nat_tests)
 
-pub among-here : (ds : List ℕ) (b i : ℕ) → i < length ds → b ≡ get_or ds i 0 → among (drop i ds) b ≡ true
-among-here ds b i l same =
-    ap (λ z. among z b) (drop_more ds i 0 l) ∙ ap (λ t. t || among (drop (i + 1) ds) b) (eq-eqb b (get_or ds i 0) same)
+abbrev Is : List ℕ → ℕ → Type 0
+Is ds b = among ds b ≡ true
+
+abbrev IsNot : List ℕ → ℕ → Type 0
+IsNot ds b = among ds b ≡ false
+
+-- the front ends before the first of ds
+pub front_ends : (ds bs : List ℕ) (r : Option ℕ) → MatchOption r (AllWithin (IsNot ds) bs 0 (length bs)) (λ i. (i < length bs) × HoldsAt (Is ds) bs i × AllWithin (IsNot ds) bs 0 i)
+    → (take (unwrap_or r (length bs)) bs ≡ front ds bs) × (drop (unwrap_or r (length bs)) bs ≡ rest ds bs)
+front_ends ds bs r h =
+    let n = index_from_first (λ l. length (front ds l)) (Is ds) (IsNot ds) refl (λ b l e. ap length (cond-true (among ds b) [] (b ∷ front ds l) e)) (λ b l e. ap length (cond-false (among ds b) [] (b ∷ front ds l) e) ∙ sym (add-one (length (front ds l)))) bs r h in
+    (ap (λ k. take k bs) (sym n) ∙ take-front ds bs, ap (λ k. drop k bs) (sym n) ∙ drop-front ds bs)
+
+-- the first byte and the front behind it are the first segment
+abbrev pub IsSegment : List ℕ → List ℕ → Type 0
+IsSegment input inner = (1 + length inner ≤ length input) × (take (1 + length inner) input ≡ first_segment input)
+
+pub segment-of : (input : List ℕ) → 0 < length input → IsSegment input (front (codes "/") (between 1 (length input) input))
+segment-of [] l = absurd (omega arith)
+segment-of (b ∷ bs) l =
+    subst (λ z. IsSegment (b ∷ bs) (front (codes "/") z)) (sym (take_all _ bs (omega arith)))
+    (omega (arith, length-parts (codes "/") bs), ap (λ n. take n (b ∷ bs)) (one-add (length (front (codes "/") bs))) ∙ ap (λ z. b ∷ z) (take-front (codes "/") bs))
+
+pub first-short : (input : List ℕ) → length (first_segment input) ≤ length input
+first-short [] = omega arith
+first-short (b ∷ bs) = omega (arith, length-parts (codes "/") bs)

@@ -1,5 +1,5 @@
 -- What removing dot segments keeps: the kind of the bytes, and a slash at the front.
-use Rattle.std.proofs.Common.{◌≡◌, ℕ, zero, suc, Bool, true, false, cond, List, [], ◌∷◌, ◌++◌, take, Some, None, codes, Option, refl, subst, arith}
+use Rattle.std.proofs.Common.{◌≡◌, ℕ, zero, suc, Bool, true, false, cond, List, [], ◌∷◌, ◌++◌, take, Some, None, codes, Option, refl, subst}
 use Rattle.std.proofs.ByRecursion.{All-append, All-take}
 use Rattle.std.specs.List.{AllByRecursion}
 use Rattle.uri.specs.Bytes.{among, front, rest}
@@ -70,8 +70,8 @@ Slashed q = Begins (codes "/") q.0 × Begins (codes "/") q.1
 each-slashed : (b : ℕ) (bs output : List ℕ) → Slashed (b ∷ bs, output) → Each Slashed (b ∷ bs) output
 each-slashed b bs output h =
     record {
-      dotdot = λ more e. let k : false ≡ true = subst (Begins (codes "/")) e h.0 in absurd (let z : ◌≡◌ {A = ℕ} 0 1 = cc in omega arith);
-      dot = λ more e. let k : false ≡ true = subst (Begins (codes "/")) e h.0 in absurd (let z : ◌≡◌ {A = ℕ} 0 1 = cc in omega arith);
+      dotdot = λ more e. let k : false ≡ true = subst (Begins (codes "/")) e h.0 in absurd cc;
+      dot = λ more e. let k : false ≡ true = subst (Begins (codes "/")) e h.0 in absurd cc;
       inner = λ more e. (refl, h.1);
       last = λ e. (refl, h.1);
       up = λ more e. (refl, begins-before (codes "/") (rightmost output) output h.1);

@@ -1,12 +1,12 @@
 pub mod Fronts
 pub mod Slashes
-pub mod Moves
 pub mod Rules
 pub mod Targets
 pub mod Turns
-pub mod Writes
 pub mod Splits
+pub mod Resolved
 pub mod Cases
+pub mod Shorter
 pub mod Keeps
 pub mod NoDots
 pub mod ReadBack

@@ -15,13 +15,13 @@ use Rattle.uri.proofs.Splits.{rest-begins}
 
 -- segments of parts
 segments-some : (bs : List ℕ) → segments bs ≡ [] → ⊥
-segments-some [] e = let z : ◌≡◌ {A = ℕ} 0 1 = cc in omega arith
+segments-some [] e = cc
 segments-some (b ∷ bs) e = go (eqb b 47) (segments bs) e
   where
     go : (t : Bool) (ss : List (List ℕ)) → cond t ([] ∷ ss) (longer b ss) ≡ [] → ⊥
-    go true ss e = let z : ◌≡◌ {A = ℕ} 0 1 = cc in omega arith
-    go false [] e = let z : ◌≡◌ {A = ℕ} 0 1 = cc in omega arith
-    go false (s ∷ ss) e = let z : ◌≡◌ {A = ℕ} 0 1 = cc in omega arith
+    go true ss e = cc
+    go false [] e = cc
+    go false (s ∷ ss) e = cc
 
 pub segments-slash : (xs ys : List ℕ) → segments (xs ++ 47 ∷ ys) ≡ segments xs ++ segments ys
 segments-slash [] ys = refl
@@ -37,7 +37,7 @@ segments-one [] h = refl
 segments-one (b ∷ bs) h = go (eqb b 47) refl h.0 (segments-one bs h.1)
   where
     go : (t : Bool) → eqb b 47 ≡ t → (t || false) ≡ false → segments bs ≡ bs ∷ [] → cond t ([] ∷ segments bs) (longer b (segments bs)) ≡ (b ∷ bs) ∷ []
-    go true e k f = absurd (let z : ◌≡◌ {A = ℕ} 0 1 = cc in omega arith)
+    go true e k f = absurd cc
     go false e k f = ap (longer b) f
 
 pub front-without : (ds bs : List ℕ) → Without ds (front ds bs)
@@ -54,16 +54,16 @@ all_left (s ∷ ss) ts h = (h.0, all_left ss ts h.1)
 
 -- the right-most slash splits a list
 rightmost-split : (bs : List ℕ) (i : ℕ) → rightmost bs ≡ Some i → bs ≡ take i bs ++ 47 ∷ drop (suc i) bs
-rightmost-split [] i e = absurd (let z : ◌≡◌ {A = ℕ} 0 1 = cc in omega arith)
+rightmost-split [] i e = absurd cc
 rightmost-split (b ∷ bs) i e = go (rightmost bs) refl (eqb b 47) refl i e (rightmost-split bs)
   where
     go : (o : Option ℕ) → rightmost bs ≡ o → (t : Bool) → eqb b 47 ≡ t → (i : ℕ) → farther o t ≡ Some i → ((j : ℕ) → rightmost bs ≡ Some j → bs ≡ take j bs ++ 47 ∷ drop (suc j) bs) → b ∷ bs ≡ take i (b ∷ bs) ++ 47 ∷ drop (suc i) (b ∷ bs)
     go (Some j) f t g i e next = let same : suc j ≡ i = cc in subst (λ k. b ∷ bs ≡ take k (b ∷ bs) ++ 47 ∷ drop (suc k) (b ∷ bs)) same (ap (λ z. b ∷ z) (next j f))
     go None f true g i e next = let same : zero ≡ i = cc in subst (λ k. b ∷ bs ≡ take k (b ∷ bs) ++ 47 ∷ drop (suc k) (b ∷ bs)) same (ap (λ z. z ∷ bs) (eqb-true b 47 g))
-    go None f false g i e next = absurd (let z : ◌≡◌ {A = ℕ} 0 1 = cc in omega arith)
+    go None f false g i e next = absurd cc
 
 empty-no-dots : NoDots []
-empty-no-dots = ((λ e. let z : ◌≡◌ {A = ℕ} 0 1 = cc in omega arith, λ e. let z : ◌≡◌ {A = ℕ} 0 1 = cc in omega arith), tt)
+empty-no-dots = ((λ e. cc, λ e. cc), tt)
 
 without_last-no-dots : (output : List ℕ) → NoDots output → NoDots (without_last output)
 without_last-no-dots output h = go (rightmost output) refl
@@ -88,7 +88,7 @@ taken-dots p input (b ∷ bs) e h whole prefix = go (eqb b 47) refl h
         let found : after (p ++ codes "/") input ≡ Some bs = ap (after (p ++ codes "/")) same ∙ after_front (p ++ codes "/") bs in
         let z : ◌≡◌ {A = ℕ} 0 1 = cc in
         omega arith
-    go false f k = let z : ◌≡◌ {A = ℕ} 0 1 = cc in omega arith
+    go false f k = cc
 
 -- the loop's invariant: the output has no dot segment, and is empty or complete
 abbrev Clean : List ℕ × List ℕ → Type 0
@@ -132,7 +132,7 @@ moved-no-dots b bs output plain or h = go (eqb b 47) refl or
     go : (t : Bool) → eqb b 47 ≡ t → (output ≡ []) ⊎ ((t || false) ≡ true) → NoDots (output ++ b ∷ seg)
     go true e or = slash (eqb-true b 47 e)
     go false e (inl none) = other e none
-    go false e (inr k) = absurd (let z : ◌≡◌ {A = ℕ} 0 1 = cc in omega arith)
+    go false e (inr k) = absurd cc
 
 each-clean : (b : ℕ) (bs output : List ℕ) → Clean (b ∷ bs, output) → Each Clean (b ∷ bs) output
 each-clean b bs output h =

@@ -1,5 +1,5 @@
 -- An address that is recomposed of well-formed components has those components.
-use Rattle.std.proofs.Common.{◌≡◌, ℕ, Bool, true, false, cond, ◌||◌, eqb, ◌⊎◌, List, [], ◌∷◌, ◌++◌, is_some, IfSome, Some, None, codes, Option, refl, ap, ◌∙◌, subst, inl, inr, append_assoc, arith}
+use Rattle.std.proofs.Common.{◌≡◌, ℕ, Bool, true, false, cond, ◌||◌, eqb, ◌⊎◌, List, [], ◌∷◌, ◌++◌, is_some, IfSome, Some, None, codes, Option, refl, ap, ◌∙◌, subst, inl, inr, append_assoc}
 use Rattle.std.proofs.lemmas.Bool.{or_right, eqb-true, cond-true, cond-false}
 use Rattle.uri.specs.Bytes.{among, front, rest, after}
 use Rattle.uri.specs.Components.{Parts, named, scheme_cut, opened, authority_cut, query_cut, from_path, components}
@@ -51,7 +51,7 @@ no_slash : (b : ℕ) → among (codes "?#") b ≡ true → eqb b 47 ≡ false
 no_slash b h = go (eqb b 47) refl
   where
     go : (t : Bool) → eqb b 47 ≡ t → t ≡ false
-    go true e = absurd (let z : among (codes "?#") 47 ≡ true = subst (λ c. among (codes "?#") c ≡ true) (eqb-true b 47 e) h in let y : ◌≡◌ {A = ℕ} 0 1 = cc in omega arith)
+    go true e = absurd (let z : among (codes "?#") 47 ≡ true = subst (λ c. among (codes "?#") c ≡ true) (eqb-true b 47 e) h in cc)
     go false e = refl
 
 path-begins : (path z : List ℕ) → Begins (codes "/") path → Begins (codes "?#") z → Begins (codes "/?#") (path ++ z)
@@ -61,7 +61,7 @@ path-begins (c ∷ path) z h k = go (eqb c 47) h
   where
     go : (t : Bool) → (t || false) ≡ true → (t || among (codes "?#") c) ≡ true
     go true e = refl
-    go false e = absurd (let y : ◌≡◌ {A = ℕ} 0 1 = cc in omega arith)
+    go false e = absurd cc
 
 -- without an authority
 one-slash : (z : List ℕ) → Begins (codes "?#") z → after (codes "/") z ≡ None
@@ -79,18 +79,18 @@ path-no-slashes (c ∷ []) z h k = go (eqb c 47)
 path-no-slashes (c ∷ d ∷ path) z h k = go (eqb c 47) (eqb d 47) h
   where
     go : (t u : Bool) → cond t (cond u (Some path) None) None ≡ None → cond t (cond u (Some (path ++ z)) None) None ≡ None
-    go true true e = absurd (let y : ◌≡◌ {A = ℕ} 0 1 = cc in omega arith)
+    go true true e = absurd cc
     go true false e = refl
     go false u e = refl
 
 authority-read : (a : Option (List ℕ)) (path z : List ℕ) → IfSome a (Without (codes "/?#")) → (is_some a ≡ true → Begins (codes "/") path) → Begins (codes "?#") z → (is_some a ≡ true) ⊎ (after (codes "//") path ≡ None)
     → authority_cut (led (codes "//") a ++ (path ++ z)) ≡ (a, path ++ z)
 authority-read (Some x) path z h s k or = opened-read (codes "/?#") x (path ++ z) h (path-begins path z (s refl) k) []
-authority-read None path z h s k (inl e) = absurd (let y : ◌≡◌ {A = ℕ} 0 1 = cc in omega arith)
+authority-read None path z h s k (inl e) = absurd cc
 authority-read None path z h s k (inr e) = ap (λ o. opened (codes "/?#") o (path ++ z)) (path-no-slashes path z e k)
 
 pub scheme-read : (s : Option (List ℕ)) (x : List ℕ) → IfSome s (λ n. (n ≡ [] → ⊥) × Without (codes ":/?#") n) → is_some s ≡ true → scheme_cut (closed s (codes ":") ++ x) ≡ (s, x)
-scheme-read None x h e = absurd (let y : ◌≡◌ {A = ℕ} 0 1 = cc in omega arith)
+scheme-read None x h e = absurd cc
 scheme-read (Some []) x h e = absurd (h.0 refl)
 scheme-read (Some (c ∷ n)) x h e =
     let f = front-append (codes ":/?#") (c ∷ n) (58 ∷ x) h.1 refl in

@@ -11,12 +11,12 @@ use Rattle.uri.specs.declared.dots.Rule.TheVariants.{DotDotPrefix, DotPrefix, Do
 
 pub after_is : (p bs more : List ℕ) → after p bs ≡ Some more → bs ≡ p ++ more
 after_is [] bs more e = cc
-after_is (x ∷ p) [] more e = absurd (let z : ◌≡◌ {A = ℕ} 0 1 = cc in omega arith)
+after_is (x ∷ p) [] more e = absurd cc
 after_is (x ∷ p) (b ∷ bs) more e = go (eqb b x) refl e (after_is p bs more)
   where
     go : (t : Bool) → eqb b x ≡ t → cond t (after p bs) None ≡ Some more → (after p bs ≡ Some more → bs ≡ p ++ more) → b ∷ bs ≡ x ∷ (p ++ more)
     go true s f next = ap (λ z. z ∷ bs) (eqb-true b x s) ∙ ap (λ z. x ∷ z) (next f)
-    go false s f next = absurd (let z : ◌≡◌ {A = ℕ} 0 1 = cc in omega arith)
+    go false s f next = absurd cc
 
 -- what holds of a choice, from what holds where the bytes are there and where they are not
 module _ {A : Type 0} (P : A → Type 0) (input : List ℕ) where

@@ -1,5 +1,5 @@
 -- The components of an address give the address again.
-use Rattle.std.proofs.Common.{◌≡◌, ℕ, Bool, true, false, cond, ◌||◌, eqb, List, [], ◌∷◌, ◌++◌, Some, None, codes, Option, sym, refl, ap, ◌∙◌, append_assoc, arith}
+use Rattle.std.proofs.Common.{◌≡◌, ℕ, Bool, true, false, cond, ◌||◌, eqb, List, [], ◌∷◌, ◌++◌, Some, None, codes, Option, sym, refl, ap, ◌∙◌, append_assoc}
 use Rattle.std.proofs.lemmas.Bool.{eqb-true}
 use Rattle.uri.specs.Bytes.{among, front, rest, after}
 use Rattle.uri.specs.Components.{named, scheme_cut, opened, authority_cut, query_cut, components}
@@ -44,7 +44,7 @@ query-end bs h = go (after (codes "?") bs) refl
     hash (b ∷ bs) h e = by (eqb b 63) refl h e
       where
         by : (t : Bool) → eqb b 63 ≡ t → (t || (eqb b 35 || false)) ≡ true → cond t (Some bs) None ≡ None → (eqb b 35 || false) ≡ true
-        by true s h e = absurd (let z : ◌≡◌ {A = ℕ} 0 1 = cc in omega arith)
+        by true s h e = absurd cc
         by false s h e = h
 
     go : (o : Option (List ℕ)) → after (codes "?") bs ≡ o → Begins (codes "#") (opened (codes "#") o bs).1
@@ -57,7 +57,7 @@ fragment-whole (b ∷ bs) h = go (eqb b 35) refl h
   where
     go : (t : Bool) → eqb b 35 ≡ t → (t || false) ≡ true → led (codes "#") (cond t (Some bs) None) ≡ b ∷ bs
     go true e h = ap (λ z. z ∷ bs) (sym (eqb-true b 35 e))
-    go false e h = absurd (let z : ◌≡◌ {A = ℕ} 0 1 = cc in omega arith)
+    go false e h = absurd cc
 
 path-whole : (bs : List ℕ) → front (codes "?#") bs ++ (led (codes "?") (query_cut (rest (codes "?#") bs)).0 ++ led (codes "#") (after (codes "#") (query_cut (rest (codes "?#") bs)).1)) ≡ bs
 path-whole bs =

@@ -1,52 +1,26 @@
 -- The laws of joining, from the definitions.
 use Rattle.std.proofs.Common.{◌≡◌, ℕ, ◌+◌, ◌≤◌, Bool, true, false, cond, eqb, leb, ◌⊎◌, List, [], ◌∷◌, ◌++◌, length, take, drop, is_some, IfSome, Some, None, codes, Option, sym, refl, ap, ◌∙◌, subst, inl, inr, append_assoc, arith}
 use Rattle.std.proofs.ByRecursion.{All-append, All-weaker}
-use Rattle.std.proofs.lemmas.List.{length-append, length-take, take_at}
+use Rattle.std.proofs.lemmas.List.{length-append, take_at}
 use Rattle.std.proofs.lemmas.Bool.{cond-true, or_parts}
-use Rattle.uri.specs.Bytes.{among, front, after}
+use Rattle.uri.specs.Bytes.{among, after}
 use Rattle.uri.specs.Components.{Parts, components}
-use Rattle.uri.specs.Dots.{remove_dots, rightmost, before}
+use Rattle.uri.specs.Dots.{remove_dots}
 use Rattle.uri.specs.Laws.{Formed, Laws}
 use Rattle.uri.specs.Resolve.{or_else, is_empty, transform, closed, led, recompose, resolved}
 use Rattle.uri.specs.Segments.{NoDots, Without}
 use Rattle.uri.specs.View.{path_front}
 use Rattle.uri.specs.Write.{placed, write_answer, in_room, resolve_answer, resolve_out, Lawful}
-use Rattle.uri.proofs.Cases.{Each, dots-keep}
 use Rattle.uri.proofs.Formed.{components-formed, transform-formed}
-use Rattle.uri.proofs.Fronts.{length-parts}
 use Rattle.uri.proofs.NoDots.{removed-no-dots}
 use Rattle.uri.proofs.ReadBack.{components-recompose}
 use Rattle.uri.proofs.Splits.{recompose-components}
+use Rattle.uri.proofs.Shorter.{removed-short}
 use Rattle.uri.proofs.Targets.{by-scheme, by-authority, by-empty, by-path, front-short, or_else-short, length-recompose}
-
--- removing dot segments makes no path longer
-less : (o : Option ℕ) (bs : List ℕ) → length (before o bs) ≤ length bs
-less None bs = omega arith
-less (Some i) bs = omega (arith, length-take i bs)
-
-module _ (n : ℕ) where
-  abbrev Few : List ℕ × List ℕ → Type 0
-  Few q = length q.0 + length q.1 ≤ n
-
-  each-few : (b : ℕ) (bs output : List ℕ) → Few (b ∷ bs, output) → Each Few (b ∷ bs) output
-  each-few b bs output h =
-      record {
-        dotdot = λ more e. omega (arith, ap length e);
-        dot = λ more e. omega (arith, ap length e);
-        inner = λ more e. omega (arith, ap length e);
-        last = λ e. omega (arith, ap length e);
-        up = λ more e. omega (arith, ap length e, less (rightmost output) output);
-        last_up = λ e. omega (arith, ap length e, less (rightmost output) output);
-        only = omega arith;
-        move = λ plain. omega (arith, length-parts (codes "/") bs, length-append output (b ∷ front (codes "/") bs));
-      }
-
-removed-short : (path : List ℕ) → length (remove_dots path) ≤ length path
-removed-short path = omega (arith, dots-keep (Few (length path)) (each-few (length path)) path (omega arith))
 
 -- a path that begins with a slash is not empty, and has no front of the base
 not-empty : (path : List ℕ) → is_some (after (codes "/") path) ≡ true → is_empty path ≡ false
-not-empty [] e = absurd (let z : ◌≡◌ {A = ℕ} 0 1 = cc in omega arith)
+not-empty [] e = absurd cc
 not-empty (b ∷ bs) e = refl
 
 -- bytes without a delimiter are bytes without a hash
@@ -129,9 +103,9 @@ module _ (b r : List ℕ) where
   target-dots or = by-ways (λ t. NoDots t.path) (λ s. removed-no-dots R.path) (λ a. removed-no-dots R.path) (λ s a e. absurd (none or s a e)) (λ e. removed-no-dots (path_front B R.path ++ R.path))
     where
       none : (is_some R.scheme ≡ true) ⊎ ((is_some R.authority ≡ true) ⊎ (is_empty R.path ≡ false)) → is_some R.scheme ≡ false → is_some R.authority ≡ false → is_empty R.path ≡ true → ⊥
-      none (inl x) s a e = let z : ◌≡◌ {A = ℕ} 0 1 = cc in omega arith
-      none (inr (inl x)) s a e = let z : ◌≡◌ {A = ℕ} 0 1 = cc in omega arith
-      none (inr (inr x)) s a e = let z : ◌≡◌ {A = ℕ} 0 1 = cc in omega arith
+      none (inl x) s a e = cc
+      none (inr (inl x)) s a e = cc
+      none (inr (inr x)) s a e = cc
 
   -- everything before the fragment
   abbrev before-fragment : Parts → List ℕ

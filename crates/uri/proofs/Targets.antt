@@ -1,5 +1,5 @@
 -- What the target takes, and how many bytes that is.
-use Rattle.std.proofs.Common.{◌≡◌, ℕ, suc, ◌+◌, ◌≤◌, Bool, true, false, cond, List, [], ◌∷◌, ◌++◌, length, take, is_some, Some, None, codes, Option, sym, refl, ap, ◌∙◌, add-one, arith}
+use Rattle.std.proofs.Common.{◌≡◌, ℕ, suc, ◌+◌, ◌≤◌, Bool, true, false, cond, List, [], ◌∷◌, ◌++◌, length, is_some, Some, None, codes, Option, sym, refl, ap, ◌∙◌, arith}
 use Rattle.std.proofs.lemmas.List.{length-append, length-take}
 use Rattle.std.proofs.lemmas.Bool.{cond-true, cond-false}
 use Rattle.uri.specs.Bytes.{after}
@@ -7,10 +7,6 @@ use Rattle.uri.specs.View.{path_front, draft, draft_by, finished, room}
 use Rattle.uri.specs.Components.{Parts}
 use Rattle.uri.specs.Dots.{rightmost, remove_dots}
 use Rattle.uri.specs.Resolve.{transform, merge, is_empty, merge_front, through, or_else, closed, led, recompose}
-
--- the bytes up to the right-most slash
-pub through-some : (path : List ℕ) (i : ℕ) → rightmost path ≡ Some i → take (i + 1) path ≡ through (rightmost path) path
-through-some path i e = ap (λ k. take k path) (add-one i) ∙ sym (ap (λ o. through o path) e)
 
 -- merging adds at most a slash
 pub merge-short : (a : Option (List ℕ)) (path : List ℕ) → length (merge_front a path) ≤ length path + 1

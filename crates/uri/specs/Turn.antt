@@ -1,8 +1,8 @@
 -- What each rule of section 5.2.4 does, by the bytes that it drops.
-use Rattle.std.specs.Prelude.{◌≡◌, ℕ, ◌<◌, ◌≤◌, cond, ◌||◌, List, [], ◌++◌, length, take, drop, is_some, codes}
+use Rattle.std.specs.Prelude.{ℕ, cond, ◌||◌, List, [], ◌++◌, drop, is_some, codes}
 use Rattle.std.specs.Str.{bytes_eq}
 use Rattle.uri.specs.Bytes.{after}
-use Rattle.uri.specs.Dots.{turn, without_last, first_segment, behind_segment}
+use Rattle.uri.specs.Dots.{without_last, first_segment, behind_segment}
 use Rattle.uri.specs.declared.dots.Rule.{Rule}
 use Rattle.uri.specs.declared.dots.Rule.TheVariants.{DotDotPrefix, DotPrefix, Dot, LastDot, Parent, LastParent, OnlyDots, Segment}
 
@@ -39,11 +39,3 @@ least Parent = 4
 least LastParent = 3
 least OnlyDots = 1
 least Segment = 0
-
--- a turn in place: the input lies behind `from`, the output in front of `to`
-pub record Turned (old new : List ℕ) (to from to' from' : ℕ) : Type 0 where
-  pub ordered : to' ≤ from'
-  pub moved : from < from'
-  pub within : from' ≤ length old
-  pub input : drop from' new ≡ (turn (drop from old) (take to old)).0
-  pub output : take to' new ≡ (turn (drop from old) (take to old)).1

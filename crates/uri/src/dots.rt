@@ -1,14 +1,13 @@
-// remove_dot_segments of RFC 3986, section 5.2.4, in place.
-ghost use Rattle.std.specs.Prelude.{◌≡◌, ℕ, ◌+◌, ◌<◌, ◌≤◌, Bool, List, ◌++◌, length, take, drop, is_some};
-ghost use Rattle.std.specs.Str.{bytes_eq};
-ghost use Rattle.uri.specs.Bytes.{after};
+// remove_dot_segments of RFC 3986, section 5.2.4.
+ghost use Rattle.std.specs.Prelude.{◌≡◌, ◌<◌, ◌++◌, length, IfSome};
+ghost use Rattle.uri.specs.Write.{HasRoom};
 ghost use Rattle.uri.specs.Dots.{rightmost, turn, remove_dots, without_last, first_segment, behind_segment};
-ghost use Rattle.uri.specs.Turn.{rule_of, Turned};
+ghost use Rattle.uri.specs.Turn.{rule_of};
 
-use crate::parse::{cut, strip};
+use crate::buffer::{Buffer, put};
+use crate::parse::cut;
 
 // The rules A to E, by what stands at the front of the input.
-#[derive(Clone, Copy)]
 enum Rule {
     DotDotPrefix,
     DotPrefix,
@@ -20,147 +19,86 @@ enum Rule {
     Segment,
 }
 
-pub(crate) fn starts(bytes: &[u8], prefix: &[u8]) -> bool
-    ensures { result ≡ is_some (after prefix.now bytes.now) }
-{
-    strip(bytes, prefix).is_some()
-}
-
-fn same(a: &[u8], b: &[u8]) -> bool
-    ensures { result ≡ bytes_eq a.now b.now }
-{
-    a == b
-}
-
 // The first rule that applies to the input.
 fn first_rule(input: &[u8]) -> Rule
     ensures { result ≡ rule_of input.now }
 {
-    if starts(input, b"../") {
-        return Rule::DotDotPrefix;
+    match input {
+        [b'.', b'.', b'/', ..] => Rule::DotDotPrefix,
+        [b'.', b'/', ..] => Rule::DotPrefix,
+        [b'/', b'.', b'/', ..] => Rule::Dot,
+        [b'/', b'.'] => Rule::LastDot,
+        [b'/', b'.', b'.', b'/', ..] => Rule::Parent,
+        [b'/', b'.', b'.'] => Rule::LastParent,
+        [b'.'] | [b'.', b'.'] => Rule::OnlyDots,
+        _ => Rule::Segment,
     }
-    if starts(input, b"./") {
-        return Rule::DotPrefix;
-    }
-    if starts(input, b"/./") {
-        return Rule::Dot;
-    }
-    if same(input, b"/.") {
-        return Rule::LastDot;
-    }
-    if starts(input, b"/../") {
-        return Rule::Parent;
-    }
-    if same(input, b"/..") {
-        return Rule::LastParent;
-    }
-    if same(input, b".") || same(input, b"..") {
-        return Rule::OnlyDots;
-    }
-    Rule::Segment
 }
 
 // The index of the right-most slash.
 pub(crate) fn last_slash(bytes: &[u8]) -> Option<usize>
-    ensures { result ≡ rightmost bytes.now }
+    ensures value { result ≡ rightmost bytes.now }
+    ensures within { IfSome result (λ i. i < length bytes.now) }
 {
-    let mut n = bytes.len();
-    while n > 0 {
-        n -= 1;
-        if bytes[n] == b'/' {
-            return Some(n);
-        }
-    }
-    None
+    bytes.iter().rposition(|b| *b == b'/')
 }
 
-// Copies n bytes down, from `from` on to `to` on.
-fn shift(path: &mut [u8], from: usize, to: usize, n: usize)
-    requires down { to ≤ from }
-    requires within { from + n ≤ length path.old }
-    ensures front { take (to + n) path.new ≡ take to path.old ++ take n (drop from path.old) }
-    ensures back { drop (from + n) path.new ≡ drop (from + n) path.old }
+// The output loses its last segment and the slash before that.
+fn drop_last(output: &mut Buffer)
+    ensures { output.new.items ≡ without_last output.old.items }
 {
-    for i in 0..n {
-        path[to + i] = path[from + i];
-    }
+    let kept = last_slash(output.as_slice()).unwrap_or(0);
+    output.truncate(kept);
 }
 
-// Where the output ends and where the input begins; the output lies in front of the input.
-#[derive(Clone, Copy)]
-struct Cursor {
-    to: usize,
-    from: usize,
-}
-
-// The end of the output without its last segment and the slash before that.
-fn parent(path: &[u8], to: usize) -> usize
-    requires { to ≤ length path.now }
-    ensures within { result ≤ to }
-    ensures output { take result path.now ≡ without_last (take to path.now) }
-{
-    match last_slash(&path[0..to]) {
-        Some(i) => i,
-        None => 0,
-    }
-}
-
-// How many bytes the first segment of the input has.
-fn segment_len(input: &[u8]) -> usize
+// The first segment of the input, and what follows it.
+fn cut_segment(input: &[u8]) -> (&[u8], &[u8])
     requires { 0 < length input.now }
-    ensures some { 0 < result }
-    ensures within { result ≤ length input.now }
-    ensures segment { take result input.now ≡ first_segment input.now }
-    ensures behind { drop result input.now ≡ behind_segment input.now }
+    ensures segment { result.0.now ≡ first_segment input.now }
+    ensures behind { result.1.now ≡ behind_segment input.now }
 {
-    1 + cut(&input[1..], b"/").0.len()
+    let (inner, behind) = cut(&input[1..], b"/");
+    (&input[..1 + inner.len()], behind)
 }
 
-// One turn: the first rule that applies to the input.
-fn take_turn(path: &mut [u8], at: Cursor) -> Cursor
-    requires ordered { at.to ≤ at.from }
-    requires within { at.from < length path.old }
-    ensures { Turned path.old path.new at.to at.from result.to result.from }
+// One turn: the first rule that applies to the input. It answers what is left of that.
+fn take_turn<'a>(input: &'a [u8], output: &mut Buffer) -> &'a [u8]
+    requires some { 0 < length input.now }
+    requires room { HasRoom output.old input.now }
+    ensures input { result.now ≡ (turn input.now output.old.items).0 }
+    ensures output { output.new.items ≡ (turn input.now output.old.items).1 }
 {
-    let Cursor { to, from } = at;
-    let end = path.len();
-    match first_rule(&path[from..]) {
-        Rule::DotDotPrefix => Cursor { to, from: from + 3 },
-        Rule::DotPrefix => Cursor { to, from: from + 2 },
-        Rule::Dot => Cursor { to, from: from + 2 },
-        Rule::LastDot => {
-            path[end - 1] = b'/';
-            Cursor { to, from: end - 1 }
+    match first_rule(input) {
+        Rule::DotDotPrefix => &input[3..],
+        Rule::DotPrefix => &input[2..],
+        Rule::Dot => &input[2..],
+        Rule::LastDot => b"/",
+        Rule::Parent => {
+            drop_last(output);
+            &input[3..]
         }
-        Rule::Parent => Cursor {
-            to: parent(path, to),
-            from: from + 3,
-        },
         Rule::LastParent => {
-            let to = parent(path, to);
-            path[end - 1] = b'/';
-            Cursor { to, from: end - 1 }
+            drop_last(output);
+            b"/"
         }
-        Rule::OnlyDots => Cursor { to, from: end },
+        Rule::OnlyDots => b"",
         Rule::Segment => {
-            let n = segment_len(&path[from..]);
-            shift(path, from, to, n);
-            Cursor {
-                to: to + n,
-                from: from + n,
-            }
+            let (segment, behind) = cut_segment(input);
+            put(output, segment);
+            behind
         }
     }
 }
 
-// Removes the dot segments in place: what is left are the first bytes, as many as answered.
-pub(crate) fn remove_dots(path: &mut [u8]) -> usize
-    ensures within { result ≤ length path.old }
-    ensures removed { take result path.new ≡ remove_dots path.old }
+// Appends the path without its dot segments, by the standard's loop: what a turn leaves is the input of the next.
+pub(crate) fn put_without_dots(out: &mut Buffer, path: &[u8])
+    requires { HasRoom out.old path.now }
+    ensures { out.new.items ≡ out.old.items ++ remove_dots path.now }
 {
-    let mut at = Cursor { to: 0, from: 0 };
-    while at.from < path.len() {
-        at = take_turn(path, at);
+    let mut output = Buffer::new();
+    let mut input = path;
+    while !input.is_empty() {
+        input = take_turn(input, &mut output);
     }
-    at.to
+    put(out, output.as_slice());
 }

@@ -1,6 +1,7 @@
 // RFC 3986: the components of an address, and references resolved on a base.
 #![tactic(auto)]
 
+mod buffer;
 mod compose;
 mod dots;
 mod parse;

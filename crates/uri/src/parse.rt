@@ -1,7 +1,7 @@
 // The components of an address, by the expression of RFC 3986, Appendix B.
 ghost use Rattle.std.specs.Prelude.{◌≡◌, codes};
 ghost use Rattle.std.specs.Option.{option_map};
-ghost use Rattle.uri.specs.Bytes.{among, front, rest, after};
+ghost use Rattle.uri.specs.Bytes.{front, rest, after};
 ghost use Rattle.uri.specs.Components.{components, scheme_cut, opened};
 ghost use Rattle.uri.specs.Laws.{Matched};
 ghost use Rattle.uri.specs.View.{parts};
@@ -15,34 +15,13 @@ pub struct Components<'a> {
     pub fragment: Option<&'a [u8]>,
 }
 
-fn is_among(stops: &[u8], b: u8) -> bool
-    ensures { result ≡ among stops.now b }
-{
-    for d in stops {
-        if b == *d {
-            return true;
-        }
-    }
-    false
-}
-
 // The longest front without any of the bytes `stops`, and what follows it.
 pub(crate) fn cut<'a>(bytes: &'a [u8], stops: &[u8]) -> (&'a [u8], &'a [u8])
     ensures front { result.0.now ≡ front stops.now bytes.now }
     ensures rest { result.1.now ≡ rest stops.now bytes.now }
 {
-    let mut n = 0;
-    while n < bytes.len() && !is_among(stops, bytes[n]) {
-        n += 1;
-    }
-    bytes.split_at(n)
-}
-
-// What follows `prefix`, if the bytes begin with it.
-pub(crate) fn strip<'a>(bytes: &'a [u8], prefix: &[u8]) -> Option<&'a [u8]>
-    ensures { option_map (λ x. x.now) result ≡ after prefix.now bytes.now }
-{
-    bytes.strip_prefix(prefix)
+    let stop = bytes.iter().position(|b| stops.contains(b));
+    bytes.split_at(stop.unwrap_or(bytes.len()))
 }
 
 // The scheme, if there is one, and what follows its colon.
@@ -51,12 +30,9 @@ fn cut_scheme(bytes: &[u8]) -> (Option<&[u8]>, &[u8])
     ensures behind { result.1.now ≡ (scheme_cut bytes.now).1 }
 {
     let (name, behind) = cut(bytes, b":/?#");
-    if name.is_empty() {
-        return (None, bytes);
-    }
-    match strip(behind, b":") {
-        Some(inner) => (Some(name), inner),
-        None => (None, bytes),
+    match behind.strip_prefix(b":") {
+        Some(inner) if !name.is_empty() => (Some(name), inner),
+        _ => (None, bytes),
     }
 }
 
@@ -65,7 +41,7 @@ fn cut_opened<'a>(bytes: &'a [u8], open: &[u8], stops: &[u8]) -> (Option<&'a [u8
     ensures part { option_map (λ x. x.now) result.0 ≡ (opened stops.now (after «open».now bytes.now) bytes.now).0 }
     ensures behind { result.1.now ≡ (opened stops.now (after «open».now bytes.now) bytes.now).1 }
 {
-    match strip(bytes, open) {
+    match bytes.strip_prefix(open) {
         Some(inner) => {
             let (part, behind) = cut(inner, stops);
             (Some(part), behind)
@@ -74,15 +50,16 @@ fn cut_opened<'a>(bytes: &'a [u8], open: &[u8], stops: &[u8]) -> (Option<&'a [u8
     }
 }
 
-// Each component from what follows the one before.
-fn cut_all(bytes: &[u8]) -> Components<'_>
-    ensures { parts result ≡ components bytes.now }
+// The components of an address, each cut from what follows the one before.
+pub fn split(bytes: &[u8]) -> Components<'_>
+    ensures components { parts result ≡ components bytes.now }
+    ensures matched { Matched bytes.now (parts result) }
 {
     let (scheme, hierarchy) = cut_scheme(bytes);
     let (authority, local) = cut_opened(hierarchy, b"//", b"/?#");
     let (path, tail) = cut(local, b"?#");
     let (query, end) = cut_opened(tail, b"?", b"#");
-    let fragment = strip(end, b"#");
+    let fragment = end.strip_prefix(b"#");
     Components {
         scheme,
         authority,
@@ -90,12 +67,4 @@ fn cut_all(bytes: &[u8]) -> Components<'_>
         query,
         fragment,
     }
-}
-
-// The components of an address.
-pub fn split(bytes: &[u8]) -> Components<'_>
-    ensures components { parts result ≡ components bytes.now }
-    ensures matched { Matched bytes.now (parts result) }
-{
-    cut_all(bytes)
 }

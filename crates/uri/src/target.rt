@@ -1,11 +1,10 @@
 // Reference resolution of RFC 3986, section 5.2: which components the target takes.
-ghost use Rattle.std.specs.Prelude.{◌≡◌, ◌≤◌, length, take};
+ghost use Rattle.std.specs.Prelude.{◌≡◌};
 ghost use Rattle.std.specs.Option.{option_map};
-ghost use Rattle.uri.specs.Dots.{rightmost};
-ghost use Rattle.uri.specs.Resolve.{through, merge_front, or_else};
+ghost use Rattle.uri.specs.Resolve.{merge_front};
 ghost use Rattle.uri.specs.View.{parts, path_front, draft, draft_of};
 
-use crate::dots::{last_slash, starts};
+use crate::dots::last_slash;
 use crate::parse::Components;
 
 // The base's own path, or a front and the reference's path, from which the dot segments have to go.
@@ -24,17 +23,6 @@ pub(crate) struct Target<'a> {
     pub fragment: Option<&'a [u8]>,
 }
 
-// How many bytes a path has up to its right-most slash, with that.
-fn through_slash(path: &[u8]) -> usize
-    ensures within { result ≤ length path.now }
-    ensures kept { take result path.now ≡ through (rightmost path.now) path.now }
-{
-    match last_slash(path) {
-        Some(i) => i + 1,
-        None => 0,
-    }
-}
-
 // What stands before the reference's path after merging, section 5.2.3.
 fn merge_front<'a>(base: Components<'a>) -> &'a [u8]
     ensures { result.now ≡ merge_front (option_map (λ x. x.now) base.entry.authority) base.entry.path.now }
@@ -43,27 +31,20 @@ fn merge_front<'a>(base: Components<'a>) -> &'a [u8]
     if path.is_empty() && base.authority.is_some() {
         return b"/";
     }
-    let kept = through_slash(path);
-    &path[0..kept]
+    match last_slash(path) {
+        Some(i) => &path[..=i],
+        None => b"",
+    }
 }
 
 // What stands before a reference's path that is not empty: nothing if that begins with a slash.
 fn path_front<'a>(base: Components<'a>, path: &[u8]) -> &'a [u8]
     ensures { result.now ≡ path_front (parts base.entry) path.now }
 {
-    if starts(path, b"/") {
+    if path.starts_with(b"/") {
         return b"";
     }
     merge_front(base)
-}
-
-fn or_else<'a>(own: Option<&'a [u8]>, other: Option<&'a [u8]>) -> Option<&'a [u8]>
-    ensures { option_map (λ x. x.now) result ≡ or_else (option_map (λ x. x.now) own.entry) (option_map (λ x. x.now) other.entry) }
-{
-    match own {
-        Some(x) => Some(x),
-        None => other,
-    }
 }
 
 // The transformation of section 5.2.2, strict, but for the removal of dot segments.
@@ -94,7 +75,7 @@ pub(crate) fn transform<'a>(base: Components<'a>, reference: Components<'a>) -> 
             scheme: base.scheme,
             authority: base.authority,
             path: TargetPath::Kept(base.path),
-            query: or_else(reference.query, base.query),
+            query: reference.query.or(base.query),
             fragment,
         };
     }

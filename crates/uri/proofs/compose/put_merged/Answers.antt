@@ -1,9 +1,10 @@
-use Rattle.std.proofs.Common.{◌++◌, arith}
-use Rattle.uri.proofs.Writes.{removed-mid}
+use Rattle.std.proofs.Common.{◌≡◌, ◌++◌, length, ap, arith, rules}
+use Rattle.std.proofs.lemmas.List.{length-append}
+use Rattle.uri.specs.Dots.{remove_dots}
+use Rattle.uri.proofs.Shorter.{removed-short}
 use Rattle.uri.proofs.compose.put_merged.Goals as goal
 
-pub returns : goal.returns
-returns c =
-    let h = removed-mid c.args.out.now c.put_two-end.new.out (c.args.first.now ++ c.args.second.now) c.remove_dots.new.path c.args.at c.put_two-end.result c.remove_dots.result
-    c.put_two-end.ensures.end (omega arith) c.put_two-end.auto.out c.put_two-end.ensures.out c.remove_dots.auto.path c.remove_dots.ensures.within c.remove_dots.ensures.removed in
-    record { end = omega arith; out = h.1 }
+pub returns-clause-short : goal.returns-clause-short
+returns-clause-short c =
+    let merged : c.as_slice.result.now ≡ c.args.front.now ++ c.args.path.now = search rules in
+    omega (arith, ap length merged, removed-short c.as_slice.result.now, ap length c.put_without_dots.ensures, length-append c.args.out.now.items (remove_dots c.as_slice.result.now))

@@ -1,36 +1,48 @@
-use Rattle.std.proofs.Common.{refl, arith}
-use Rattle.uri.proofs.Turns.{skips, slashes, empties, segment-moves}
+use Rattle.std.proofs.Common.{◌++◌, length, refl, ap, ◌∙◌, arith}
+use Rattle.std.proofs.lemmas.List.{take_rest}
+use Rattle.uri.proofs.Fronts.{first-short}
+use Rattle.uri.proofs.Turns.{turned}
 use Rattle.uri.proofs.dots.take_turn.Goals as goal
+
+pub put-requires : goal.put-requires
+put-requires c = omega (arith, ap length c.cut_segment.ensures.segment, first-short c.args.input.now)
 
 pub returns-in-DotDotPrefix : goal.returns-in-DotDotPrefix
 returns-in-DotDotPrefix c =
-    skips c.args.path.now c.args.at.to c.args.at.from c.requires.ordered c.requires.within _ c.in-DotDotPrefix.ensures 3 c.args.at.to _ refl (omega arith) (omega arith) (omega arith) refl
+    let h = turned c.args.input.now c.args.output.now.items _ _ _ c.in-DotDotPrefix.ensures (take_rest _ 3) (refl) in
+    record { input = h.0; output = h.1 }
 
 pub returns-in-DotPrefix : goal.returns-in-DotPrefix
 returns-in-DotPrefix c =
-    skips c.args.path.now c.args.at.to c.args.at.from c.requires.ordered c.requires.within _ c.in-DotPrefix.ensures 2 c.args.at.to _ refl (omega arith) (omega arith) (omega arith) refl
+    let h = turned c.args.input.now c.args.output.now.items _ _ _ c.in-DotPrefix.ensures (take_rest _ 2) (refl) in
+    record { input = h.0; output = h.1 }
 
 pub returns-in-Dot : goal.returns-in-Dot
 returns-in-Dot c =
-    skips c.args.path.now c.args.at.to c.args.at.from c.requires.ordered c.requires.within _ c.in-Dot.ensures 2 c.args.at.to _ refl (omega arith) (omega arith) (omega arith) refl
+    let h = turned c.args.input.now c.args.output.now.items _ _ _ c.in-Dot.ensures (take_rest _ 2) (refl) in
+    record { input = h.0; output = h.1 }
 
 pub returns-in-LastDot : goal.returns-in-LastDot
 returns-in-LastDot c =
-    slashes c.args.path.now c.args.at.to c.args.at.from c.requires.ordered c.requires.within _ c.in-LastDot.ensures c.args.at.to _ refl (omega arith) (omega arith) refl
+    let h = turned c.args.input.now c.args.output.now.items _ _ _ c.in-LastDot.ensures (refl) (refl) in
+    record { input = h.0; output = h.1 }
 
 pub returns-in-Parent : goal.returns-in-Parent
 returns-in-Parent c =
-    skips c.args.path.now c.args.at.to c.args.at.from c.requires.ordered c.requires.within _ c.in-Parent.ensures 3 c.parent.result _ refl (omega arith) (omega arith) c.parent.ensures.within c.parent.ensures.output
+    let h = turned c.args.input.now c.args.output.now.items _ _ _ c.in-Parent.ensures (take_rest _ 3) (c.drop_last.ensures) in
+    record { input = h.0; output = h.1 }
 
 pub returns-in-LastParent : goal.returns-in-LastParent
 returns-in-LastParent c =
-    slashes c.args.path.now c.args.at.to c.args.at.from c.requires.ordered c.requires.within _ c.in-LastParent.ensures c.parent-to.result _ refl (omega arith) c.parent-to.ensures.within c.parent-to.ensures.output
+    let h = turned c.args.input.now c.args.output.now.items _ _ _ c.in-LastParent.ensures (refl) (c.drop_last-in-LastParent.ensures) in
+    record { input = h.0; output = h.1 }
 
 pub returns-in-OnlyDots : goal.returns-in-OnlyDots
-returns-in-OnlyDots c = empties c.args.path.now c.args.at.to c.args.at.from c.requires.ordered c.requires.within _ c.in-OnlyDots.ensures refl
+returns-in-OnlyDots c =
+    let h = turned c.args.input.now c.args.output.now.items _ _ _ c.in-OnlyDots.ensures (refl) (refl) in
+    record { input = h.0; output = h.1 }
 
 pub returns-in-Segment : goal.returns-in-Segment
 returns-in-Segment c =
-    let seg = c.segment_len-n.ensures in
-    segment-moves c.args.path.now c.args.at.to c.args.at.from c.requires.ordered c.requires.within _ c.in-Segment.ensures c.shift.new.path c.segment_len-n.result refl
-    (record { some = seg.some; within = seg.within; segment = seg.segment; behind = seg.behind }) c.shift.ensures.front c.shift.ensures.back
+    let h = turned c.args.input.now c.args.output.now.items _ _ _ c.in-Segment.ensures (c.cut_segment.ensures.behind) (c.put.ensures ∙ ap (λ z. c.args.output.now.items ++ z) c.cut_segment.ensures.segment) in
+    record { input = h.0; output = h.1 }

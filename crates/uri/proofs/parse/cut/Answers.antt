@@ -1,22 +1,18 @@
-use Rattle.std.proofs.Common.{sym, ◌∙◌}
-use Rattle.uri.proofs.Fronts.{pass, front-stops, front_ends}
+use Rattle.std.proofs.Common.{◌≡◌, true, false, take, drop, rules, tests, sym, ap, ◌∙◌}
+use Rattle.std.proofs.lemmas.Iterator.{IsFirst-from_position, YieldsList-from_slice}
+use Rattle.uri.specs.Bytes.{among}
+use Rattle.uri.proofs.Fronts.{among-any, front_ends}
 use Rattle.uri.proofs.parse.cut.Goals as goal
-use Rattle.uri.proofs.parse.cut.Goals.{then-loop-n-test+else-not-is_among, else-loop-n-test}
-
-pub loop-n-preserved : goal.loop-n-preserved
-loop-n-preserved c = pass c.args.stops.now c.args.bytes.now c.loop-n.n c.loop-n-test.true (sym c.if-not-is_among.ensures) c.loop-n.invariant
 
 pub returns : goal.returns
 returns c =
     let ds = c.args.stops.now in
     let bs = c.args.bytes.now in
-    let n = c.loop-n.n in
-    let parts = c.split_at.ensures in
-    elim c.loop-n-test.branch [
-      | then-loop-n-test+else-not-is_among w ↦
-          let e = front-stops ds bs n c.loop-n.invariant w.loop-n-test.true (sym w.if-not-is_among.ensures) in
-          record { front = parts.front ∙ e.0; rest = parts.back ∙ e.1 }
-      | else-loop-n-test w ↦
-          let e = front_ends ds bs n c.loop-n.invariant w.loop-n-test.false in
-          record { front = parts.front ∙ e.0; rest = parts.back ∙ e.1 }
-    ]
+    let e =
+    front_ends ds bs _
+    (IsFirst-from_position _ _ _ (λ b. among ds b ≡ true) (λ b. among ds b ≡ false) c.position-stop.ensures.ran (YieldsList-from_slice bs cc)
+    (λ x q k. sym (among-any ds x.now) ∙ search (rules, tests)) (λ x q k. (search (rules, tests), sym (among-any ds x.now) ∙ search (rules, tests)))) in
+    record {
+      front = c.split_at.ensures.front ∙ (ap (λ n. take n bs) c.unwrap_or.ensures ∙ e.0);
+      rest = c.split_at.ensures.back ∙ (ap (λ n. drop n bs) c.unwrap_or.ensures ∙ e.1);
+    }

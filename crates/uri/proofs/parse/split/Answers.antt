@@ -1,7 +1,6 @@
-use Rattle.std.proofs.Common.{sym, subst}
-use Rattle.uri.specs.Laws.{Matched}
-use Rattle.uri.proofs.Formed.{components-matched}
+use Rattle.std.proofs.Common.{rules}
+use Rattle.uri.proofs.Formed.{matched_by}
 use Rattle.uri.proofs.parse.split.Goals as goal
 
-pub returns : goal.returns
-returns c = record { components = c.cut_all.ensures; matched = subst (Matched c.args.bytes.now) (sym c.cut_all.ensures) (components-matched c.args.bytes.now) }
+pub returns-clause-matched : goal.returns-clause-matched
+returns-clause-matched c = matched_by _ _ (search rules)

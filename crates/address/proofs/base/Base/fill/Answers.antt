@@ -1,7 +1,9 @@
-use Rattle.address.proofs.Shapes.{filled}
+use Rattle.std.proofs.Common.{sym}
+use Rattle.address.proofs.Shapes.{base_shape, refused_shape}
 use Rattle.address.proofs.base.Base.fill.Goals as goal
 
-pub returns : goal.returns
-returns c =
-    let h = c.try_set.ensures in
-    record { answer = h.answer; after = h.after; refused = h.refused; shaped = filled c.args.bytes.now c.try_set.result h.answer }
+pub returns-then-not-is_base-clause-shaped : goal.returns-then-not-is_base-clause-shaped
+returns-then-not-is_base-clause-shaped c = refused_shape c.args.bytes.now (sym c.if-not-is_base.ensures)
+
+pub returns-clause-shaped : goal.returns-clause-shaped
+returns-clause-shaped c = base_shape c.args.bytes.now (sym c.if-not-is_base.ensures)
