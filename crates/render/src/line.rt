@@ -4,7 +4,7 @@ ghost use Rattle.page.specs.Forest.{find, has as has_in, attrs_of, part_of};
 ghost use Rattle.render.specs.Render.{quoted, word, attr_text, attrs_text};
 ghost use Rattle.render.specs.Found.{part_bytes, content_in, line_of};
 
-use crate::escape::push_escaped;
+use crate::escape::push_quoted;
 use page::{NodeKind, Page, Part};
 use std::alloc::AllocError;
 
@@ -30,16 +30,12 @@ fn kind_word(kind: NodeKind) -> &'static [u8]
 }
 
 // A part in quotes.
-fn push_quoted<P: Page>(p: &P, n: usize, part: Part, out: &mut Vec<u8>) -> Result<(), AllocError>
+fn push_part<P: Page>(p: &P, n: usize, part: Part, out: &mut Vec<u8>) -> Result<(), AllocError>
     requires { is_some (part_of (find (P.tree p.now) n) part) ≡ true }
     ensures { OnOk result (out.new.items ≡ out.old.items ++ quoted (part_bytes (find (P.tree p.now) n) part)) }
 {
-    out.push(b'"')?;
-    for i in 0..p.len_of(n, part) {
-        push_escaped(out, p.byte_of(n, part, i))?;
-    }
-    out.push(b'"')?;
-    Ok(())
+    let bytes = (0..p.len_of(n, part)).map(|i| p.byte_of(n, part, i));
+    push_quoted(out, bytes)
 }
 
 // The content of all but the document: a space and the quoted bytes.
@@ -51,7 +47,7 @@ fn push_content<P: Page>(p: &P, n: usize, out: &mut Vec<u8>) -> Result<(), Alloc
         return Ok(());
     }
     out.push(b' ')?;
-    push_quoted(p, n, Part::Content, out)?;
+    push_part(p, n, Part::Content, out)?;
     Ok(())
 }
 
@@ -61,9 +57,9 @@ fn push_attr<P: Page>(p: &P, n: usize, j: usize, out: &mut Vec<u8>) -> Result<()
     ensures { OnOk result (out.new.items ≡ out.old.items ++ attr_text (slice_index_or (attrs_of (find (P.tree p.now) n)) j ([], []))) }
 {
     out.push(b' ')?;
-    push_quoted(p, n, Part::Name(j), out)?;
+    push_part(p, n, Part::Name(j), out)?;
     out.push(b'=')?;
-    push_quoted(p, n, Part::Value(j), out)?;
+    push_part(p, n, Part::Value(j), out)?;
     Ok(())
 }
 

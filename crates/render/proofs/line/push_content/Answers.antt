@@ -24,8 +24,8 @@ some-content (node m j c a kids rest) k e h = let z : j ≡ k = cc in go j (λ (
     go Comment h = refl
     go Element h = refl
 
-pub push_quoted-requires : goal.push_quoted-requires
-push_quoted-requires g c = has-content (g.P.Page.tree c.args.p.now) c.args.n c.requires
+pub push_part-requires : goal.push_part-requires
+push_part-requires g c = has-content (g.P.Page.tree c.args.p.now) c.args.n c.requires
 
 pub returns-in-Document : goal.returns-in-Document
 returns-in-Document g c =
@@ -36,6 +36,6 @@ pub returns : goal.returns
 returns g c =
     let f = find (g.P.Page.tree c.args.p.now) c.args.n in
     let E = vec_items c.args.out.now in
-    c.in_ok-push_quoted.ensures
+    c.in_ok-push_part.ensures
     ∙ (ap (λ l. l ++ quoted (part_bytes f Content)) c.in_ok-push.ensures.items
     ∙ (append_assoc E (32 ∷ []) (quoted (part_bytes f Content)) ∙ ap (λ l. E ++ l) (sym (some-content f c.kind_of.result (c.kind_of.ensures c.requires) c.in_default.not-Document))))
