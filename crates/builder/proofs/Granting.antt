@@ -1,6 +1,7 @@
 -- An event that is answered yes keeps a state sound.
 use Rattle.std.proofs.Common.{◌≡◌, ℕ, ◌+◌, ◌<◌, Bool, true, false, not, ◌&&◌, eqb, leb, List, [], ◌∷◌, length, None, refl, subst, arith}
 use Rattle.std.proofs.lemmas.Bool.{and_parts, leb-true, ltb-true, eqb-false, not-true}
+use Rattle.std.proofs.lemmas.Grind.{common_steps}
 use Rattle.utf8.specs.Table.{well_formed}
 use Rattle.page.specs.declared.kind.NodeKind.{NodeKind}
 use Rattle.page.specs.declared.kind.NodeKind.TheVariants.{Doctype, Text, Comment, Element}
@@ -19,13 +20,10 @@ use Rattle.builder.proofs.Closing.{closed-sound}
 -- where no question is answered no, each is answered yes
 one-yes : (a : Bool) (x : BuildRefusal) (qs : List (Bool × BuildRefusal)) → first_no ((a, x) ∷ qs) ≡ None → (a ≡ true) × (first_no qs ≡ None)
 one-yes true x qs h = (refl, h)
-one-yes false x qs h = absurd (let z : ◌≡◌ {A = ℕ} 0 1 = cc in omega arith)
+one-yes false x qs h = cc
 
 three-yes : (a b c : Bool) (x y z : BuildRefusal) → first_no ((a, x) ∷ (b, y) ∷ (c, z) ∷ []) ≡ None → (a ≡ true) × (b ≡ true) × (c ≡ true)
-three-yes a b c x y z h =
-    let p = one-yes a x ((b, y) ∷ (c, z) ∷ []) h in
-    let q = one-yes b y ((c, z) ∷ []) p.1 in
-    (p.0, q.0, (one-yes c z [] q.1).0)
+three-yes a b c x y z h = grind (arith, common_steps)
 
 pub node-granted : (s : State) (k : NodeKind) (c : List ℕ) → is_document k ≡ false → first_no (of_node s c) ≡ None → Granted s k c
 node-granted s k c inner h =

@@ -1,53 +1,41 @@
 -- One event more: the rows that the events give.
 use Rattle.std.proofs.Common.{◌≡◌, ℕ, suc, ◌-◌, Bool, true, false, ◌⊎◌, List, [], ◌∷◌, ◌++◌, sym, refl, ap, ◌∙◌, inl, inr}
+use Rattle.std.specs.List.{fold}
 use Rattle.std.proofs.lemmas.Bool.{both_ways, cases_Bool}
+use Rattle.std.proofs.lemmas.List.Sums.{fold-append}
 use Rattle.page.specs.declared.kind.NodeKind.TheVariants.{Document, Doctype, Text, Comment, Element}
 use Rattle.table.specs.Rows.{Row}
 use Rattle.builder.specs.Events.{Event, element, attribute, text, comment, doctype, close, attrs_first, row, rows_at, event_rows}
 
 -- the depth at which the next node stands
+abbrev depth_step : ℕ → Event → ℕ
+depth_step d (element c) = suc d
+depth_step d (attribute n v) = d
+depth_step d (text c) = d
+depth_step d (comment c) = d
+depth_step d (doctype c) = d
+depth_step d close = d - 1
+
 abbrev pub depth_after : ℕ → List Event → ℕ
-depth_after d [] = d
-depth_after d (element c ∷ es) = depth_after (suc d) es
-depth_after d (attribute n v ∷ es) = depth_after d es
-depth_after d (text c ∷ es) = depth_after d es
-depth_after d (comment c ∷ es) = depth_after d es
-depth_after d (doctype c ∷ es) = depth_after d es
-depth_after d (close ∷ es) = depth_after (d - 1) es
+depth_after d es = fold depth_step d es
 
 -- whether an element was just given, and since then attributes only
-abbrev pub ends_fresh : Bool → List Event → Bool
-ends_fresh b [] = b
-ends_fresh b (element c ∷ es) = ends_fresh true es
-ends_fresh b (attribute n v ∷ es) = ends_fresh b es
-ends_fresh b (text c ∷ es) = ends_fresh false es
-ends_fresh b (comment c ∷ es) = ends_fresh false es
-ends_fresh b (doctype c ∷ es) = ends_fresh false es
-ends_fresh b (close ∷ es) = ends_fresh false es
+abbrev fresh_step : Bool → Event → Bool
+fresh_step b (element c) = true
+fresh_step b (attribute n v) = b
+fresh_step b (text c) = false
+fresh_step b (comment c) = false
+fresh_step b (doctype c) = false
+fresh_step b close = false
 
-depth-append : (d : ℕ) (es fs : List Event) → depth_after d (es ++ fs) ≡ depth_after (depth_after d es) fs
-depth-append d [] fs = refl
-depth-append d (element c ∷ es) fs = depth-append (suc d) es fs
-depth-append d (attribute n v ∷ es) fs = depth-append d es fs
-depth-append d (text c ∷ es) fs = depth-append d es fs
-depth-append d (comment c ∷ es) fs = depth-append d es fs
-depth-append d (doctype c ∷ es) fs = depth-append d es fs
-depth-append d (close ∷ es) fs = depth-append (d - 1) es fs
+abbrev pub ends_fresh : Bool → List Event → Bool
+ends_fresh b es = fold fresh_step b es
 
 pub depth-snoc : (d : ℕ) (es : List Event) (e : Event) → depth_after d (es ++ (e ∷ [])) ≡ depth_after (depth_after d es) (e ∷ [])
-depth-snoc d es e = depth-append d es (e ∷ [])
-
-fresh-append : (b : Bool) (es fs : List Event) → ends_fresh b (es ++ fs) ≡ ends_fresh (ends_fresh b es) fs
-fresh-append b [] fs = refl
-fresh-append b (element c ∷ es) fs = fresh-append true es fs
-fresh-append b (attribute n v ∷ es) fs = fresh-append b es fs
-fresh-append b (text c ∷ es) fs = fresh-append false es fs
-fresh-append b (comment c ∷ es) fs = fresh-append false es fs
-fresh-append b (doctype c ∷ es) fs = fresh-append false es fs
-fresh-append b (close ∷ es) fs = fresh-append false es fs
+depth-snoc d es e = fold-append depth_step d es (e ∷ [])
 
 pub fresh-snoc : (b : Bool) (es : List Event) (e : Event) → ends_fresh b (es ++ (e ∷ [])) ≡ ends_fresh (ends_fresh b es) (e ∷ [])
-fresh-snoc b es e = fresh-append b es (e ∷ [])
+fresh-snoc b es e = fold-append fresh_step b es (e ∷ [])
 
 -- an event that begins with no attribute adds none to the element before
 first-append : (es fs : List Event) → attrs_first fs ≡ [] → attrs_first (es ++ fs) ≡ attrs_first es
