@@ -221,7 +221,7 @@ module _ (s : State) (k : NodeKind) (c : List ℕ) (h : Sound s) (g : Granted s 
           let e : suc i ≡ n = omega arith in
           let gone : depth_at t (suc i) ≡ 0 = ap (λ (x : NodeRecord). x.depth) (get_or_past t.nodes (suc i) no_node (omega (arith, long))) in
           let there : depth_at u (suc i) ≡ d = ap (depth_at u) e ∙ new in
-          cond-false (ltb (depth_at u i) (depth_at u (suc i))) _ _ (le-ltb _ _ (omega (arith, same i l))) ∙ sym (cond-false (ltb (depth_at t i) (depth_at t (suc i))) _ _ (le-ltb _ _ (omega arith)))
+          let before = same i l in grind (arith, nat_tests)
 
   sibling-keeps : (i : ℕ) → i < n → (((m : ℕ) → i < m → m < n → depth_at t i < depth_at t m) → d ≡ depth_at t i → ⊥) → sibling_link u i ≡ sibling_link t i
   sibling-keeps i l off = go (scan t i n)

@@ -1,7 +1,7 @@
 -- One event more: the rows that the events give.
 use Rattle.std.proofs.Common.{◌≡◌, ℕ, suc, ◌-◌, Bool, true, false, ◌⊎◌, List, [], ◌∷◌, ◌++◌, sym, refl, ap, ◌∙◌, inl, inr}
 use Rattle.std.specs.List.{fold}
-use Rattle.std.proofs.lemmas.Bool.{both_ways, cases_Bool}
+use Rattle.std.proofs.lemmas.Bool.{cases_Bool}
 use Rattle.std.proofs.lemmas.List.Sums.{fold-append}
 use Rattle.page.specs.declared.kind.NodeKind.TheVariants.{Document, Doctype, Text, Comment, Element}
 use Rattle.table.specs.Rows.{Row}
@@ -88,33 +88,33 @@ only_attrs (close ∷ es) = false
 only-rows : (d : ℕ) (es : List Event) → only_attrs es ≡ true → rows_at d es ≡ []
 only-rows d [] h = refl
 only-rows d (attribute n v ∷ es) h = only-rows d es h
-only-rows d (element c ∷ es) h = absurd (both_ways false refl h)
-only-rows d (text c ∷ es) h = absurd (both_ways false refl h)
-only-rows d (comment c ∷ es) h = absurd (both_ways false refl h)
-only-rows d (doctype c ∷ es) h = absurd (both_ways false refl h)
-only-rows d (close ∷ es) h = absurd (both_ways false refl h)
+only-rows d (element c ∷ es) h = cc
+only-rows d (text c ∷ es) h = cc
+only-rows d (comment c ∷ es) h = cc
+only-rows d (doctype c ∷ es) h = cc
+only-rows d (close ∷ es) h = cc
 
 only-more : (es : List Event) (n v : List ℕ) → only_attrs es ≡ true → only_attrs (es ++ (attribute n v ∷ [])) ≡ true
 only-more [] n v h = refl
 only-more (attribute m w ∷ es) n v h = only-more es n v h
-only-more (element c ∷ es) n v h = absurd (both_ways false refl h)
-only-more (text c ∷ es) n v h = absurd (both_ways false refl h)
-only-more (comment c ∷ es) n v h = absurd (both_ways false refl h)
-only-more (doctype c ∷ es) n v h = absurd (both_ways false refl h)
-only-more (close ∷ es) n v h = absurd (both_ways false refl h)
+only-more (element c ∷ es) n v h = cc
+only-more (text c ∷ es) n v h = cc
+only-more (comment c ∷ es) n v h = cc
+only-more (doctype c ∷ es) n v h = cc
+only-more (close ∷ es) n v h = cc
 
 only-first : (es : List Event) (n v : List ℕ) → only_attrs es ≡ true → attrs_first (es ++ (attribute n v ∷ [])) ≡ attrs_first es ++ ((n, v) ∷ [])
 only-first [] n v h = refl
 only-first (attribute m w ∷ es) n v h = ap (λ l. (m, w) ∷ l) (only-first es n v h)
-only-first (element c ∷ es) n v h = absurd (both_ways false refl h)
-only-first (text c ∷ es) n v h = absurd (both_ways false refl h)
-only-first (comment c ∷ es) n v h = absurd (both_ways false refl h)
-only-first (doctype c ∷ es) n v h = absurd (both_ways false refl h)
-only-first (close ∷ es) n v h = absurd (both_ways false refl h)
+only-first (element c ∷ es) n v h = cc
+only-first (text c ∷ es) n v h = cc
+only-first (comment c ∷ es) n v h = cc
+only-first (doctype c ∷ es) n v h = cc
+only-first (close ∷ es) n v h = cc
 
 -- behind another event, what stood before does not matter
 mixed-first : (es fs : List Event) → only_attrs es ≡ false → attrs_first (es ++ fs) ≡ attrs_first es
-mixed-first [] fs h = absurd (both_ways true h refl)
+mixed-first [] fs h = cc
 mixed-first (attribute m w ∷ es) fs h = ap (λ l. (m, w) ∷ l) (mixed-first es fs h)
 mixed-first (element c ∷ es) fs h = refl
 mixed-first (text c ∷ es) fs h = refl
@@ -123,7 +123,7 @@ mixed-first (doctype c ∷ es) fs h = refl
 mixed-first (close ∷ es) fs h = refl
 
 mixed-fresh : (b : Bool) (es : List Event) → only_attrs es ≡ false → ends_fresh b es ≡ ends_fresh false es
-mixed-fresh b [] h = absurd (both_ways true h refl)
+mixed-fresh b [] h = cc
 mixed-fresh b (attribute m w ∷ es) h = mixed-fresh b es h
 mixed-fresh b (element c ∷ es) h = refl
 mixed-fresh b (text c ∷ es) h = refl
@@ -133,7 +133,7 @@ mixed-fresh b (close ∷ es) h = refl
 
 -- an element that was just given is a row
 fresh-rows : (d : ℕ) (es : List Event) → ends_fresh false es ≡ true → SomeRows (rows_at d es)
-fresh-rows d [] h = absurd (both_ways false refl h)
+fresh-rows d [] h = cc
 fresh-rows d (element c ∷ es) h = tt
 fresh-rows d (attribute n v ∷ es) h = fresh-rows d es h
 fresh-rows d (text c ∷ es) h = tt
@@ -143,7 +143,7 @@ fresh-rows d (close ∷ es) h = fresh-rows (d - 1) es h
 
 -- an attribute goes to the last row
 rows-attr : (d : ℕ) (es : List Event) (n v : List ℕ) → ends_fresh false es ≡ true → rows_at d (es ++ (attribute n v ∷ [])) ≡ more_attr (rows_at d es) (n, v)
-rows-attr d [] n v h = absurd (both_ways false refl h)
+rows-attr d [] n v h = cc
 rows-attr d (element c ∷ es) n v h = go (cases_Bool (only_attrs es)) (rows-attr (suc d) es n v)
   where
     go : (only_attrs es ≡ true) ⊎ (only_attrs es ≡ false) → (ends_fresh false es ≡ true → rows_at (suc d) (es ++ (attribute n v ∷ [])) ≡ more_attr (rows_at (suc d) es) (n, v))

@@ -1,7 +1,7 @@
 -- One row more, and one attribute more of the last row: the records, and that they still fit.
 use Rattle.std.proofs.Common.{◌≡◌, ℕ, zero, suc, ◌+◌, ◌<◌, ◌≤◌, true, false, not, ◌&&◌, ◌||◌, eqb, leb, List, [], ◌∷◌, ◌++◌, length, sym, refl, ap, ◌∙◌, append_assoc, append-nil, arith, length-append}
 use Rattle.std.proofs.lemmas.Bool.Decides.{nat_tests}
-use Rattle.std.proofs.lemmas.Bool.{and_parts, and_from, le-leb, eqb-true, both_ways}
+use Rattle.std.proofs.lemmas.Bool.{and_parts, and_from, eqb-true, both_ways}
 use Rattle.utf8.specs.Table.{well_formed}
 use Rattle.page.specs.declared.kind.NodeKind.{NodeKind}
 use Rattle.page.specs.declared.kind.NodeKind.TheVariants.{Document, Doctype, Text, Comment, Element}
@@ -180,18 +180,11 @@ fit-attrs (x ∷ xs) d c a b fit fb na nb =
     let all = (x ∷ xs) ++ (z ∷ []) in
     let f = form x (xs ++ (y ∷ [])) fit.shape in
     let texts = formed-parts (x ∷ xs) (y ∷ []) fit.texts in
-    let p = and_parts (eqb x.depth 0 && (is_document x.kind && (bare x && (leb (suc (length (xs ++ (y ∷ [])))) 4096 && leb (total (x ∷ (xs ++ (y ∷ [])))) 131072)))) _ fit.shape in
-    let g = and_parts (eqb x.depth 0) _ p.0 in
-    let k = and_parts (is_document x.kind) _ g.1 in
-    let e = and_parts (bare x) _ k.1 in
     let few = f.few in
     let one : length (xs ++ (z ∷ [])) ≡ length (xs ++ (y ∷ [])) = length-append xs (z ∷ []) ∙ sym (length-append xs (y ∷ [])) in
     let long : length (all_bytes all) ≡ length (all_bytes (x ∷ xs)) + (length c + length (joined b)) = ap length (bytes-append (x ∷ xs) (z ∷ []) ∙ ap (λ l. all_bytes (x ∷ xs) ++ l) (append-nil (bytes_of z))) ∙ (length-append (all_bytes (x ∷ xs)) (bytes_of z) ∙ ap (λ n. length (all_bytes (x ∷ xs)) + n) (length-append c (joined b))) in
     record {
-      shape =
-          and_from _ _
-          (and_from (eqb x.depth 0) _ g.0 (and_from (is_document x.kind) _ k.0 (and_from (bare x) _ e.0 (and_from (leb (suc (length (xs ++ (z ∷ [])))) 4096) _ (le-leb _ _ (omega arith)) (le-leb _ _ (omega (arith, total-bytes all)))))))
-          (sym (steps-attrs xs (reach x) d c a b) ∙ f.next);
+      shape = let head = fit.shape in let more = sym (steps-attrs xs (reach x) d c a b) ∙ f.next in let most = total-bytes all in grind (arith, nat_tests);
       root = fit.root;
       texts = formed-append (x ∷ xs) (z ∷ []) texts.0 (texts.1.0, fb, tt);
       attrs = omega (arith, attr_count-append (x ∷ xs) (z ∷ []));

@@ -1,7 +1,7 @@
 -- What a sound state says, part by part.
 use Rattle.std.proofs.Common.{◌≡◌, ℕ, zero, suc, ◌+◌, ◌<◌, ◌≤◌, Bool, true, false, not, ◌||◌, eqb, ltb, leb, length, get_or, Some, None, Option, refl, ap, ◌∙◌, arith, length-take-le, get_or-take}
 use Rattle.std.proofs.lemmas.Bool.Decides.{nat_tests}
-use Rattle.std.proofs.lemmas.Bool.{and_parts, and_from, leb-true, ltb-true, eqb-true, eq-eqb, both_ways}
+use Rattle.std.proofs.lemmas.Bool.{and_parts, and_from, leb-true, ltb-true, eqb-true, eq-eqb}
 use Rattle.table.specs.Table.{Table, node_at}
 use Rattle.table.specs.Checks.{each, is_parent_code, accepts}
 use Rattle.table.specs.Links.{depth_at, deepest}
@@ -49,7 +49,7 @@ Fresh t p o true = (o ≡ None) × ((node_at t p).kind ≡ 4)
 fresh-is : (t : Table) (p : ℕ) (o : Option ℕ) (f : Bool) → (not f || fresh_ok t p o) ≡ true → Fresh t p o f
 fresh-is t p o false h = tt
 fresh-is t p None true h = (refl, eqb-true _ _ h)
-fresh-is t p (Some q) true h = absurd (both_ways false refl h)
+fresh-is t p (Some q) true h = cc
 
 is-fresh : (t : Table) (p : ℕ) (o : Option ℕ) (f : Bool) → Fresh t p o f → (not f || fresh_ok t p o) ≡ true
 is-fresh t p o false h = refl

@@ -1,4 +1,4 @@
-use Rattle.std.proofs.Common.{◌≡◌, ℕ, [], ◌∷◌, ◌++◌, Some, vec_items, sym, refl, ap, ◌∙◌, append_assoc, append-nil, arith}
+use Rattle.std.proofs.Common.{◌≡◌, [], ◌∷◌, ◌++◌, Some, vec_items, sym, refl, ap, ◌∙◌, append_assoc, append-nil}
 use Rattle.page.specs.declared.kind.NodeKind.{NodeKind}
 use Rattle.page.specs.declared.kind.NodeKind.TheVariants.{Document, Doctype, Text, Comment, Element}
 use Rattle.page.specs.declared.kind.Part.TheVariants.{Content}
@@ -14,7 +14,7 @@ no-content none e = refl
 no-content (node m k c a kids rest) e = let z : k ≡ Document = cc in ap (λ j. content_text j c) z
 
 some-content : (f : Forest) (k : NodeKind) → Some k ≡ kind_of f → (k ≡ Document → ⊥) → content_in f ≡ 32 ∷ quoted (part_bytes f Content)
-some-content none k e h = absurd (let z : ◌≡◌ {A = ℕ} 0 1 = cc in omega arith)
+some-content none k e h = cc
 some-content (node m j c a kids rest) k e h = let z : j ≡ k = cc in go j (λ (y : j ≡ Document). h (sym z ∙ y))
   where
     go : (i : NodeKind) → (i ≡ Document → ⊥) → content_text i c ≡ 32 ∷ quoted c

@@ -8,7 +8,7 @@ use Rattle.render.proofs.lines.push_lines.Goals as goal
 
 -- a tree is its root and what stands under it
 tree-lines : (t : Forest) (n : ℕ) → head_of t ≡ Some n → rest_of t ≡ none → lines 0 t ≡ line_of 0 t ++ lines 1 (kids_of t)
-tree-lines none n h e = absurd (let z : ◌≡◌ {A = ℕ} 0 1 = cc in omega arith)
+tree-lines none n h e = cc
 tree-lines (node m k c a kids rest) n h e = ap (λ r. line_of 0 (node m k c a kids rest) ++ (lines 1 kids ++ lines 0 r)) e ∙ ap (λ l. line_of 0 (node m k c a kids rest) ++ l) (append-nil (lines 1 kids))
 
 pub push_line-requires : goal.push_line-requires
