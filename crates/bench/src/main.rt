@@ -6,8 +6,9 @@ use anyhow::anyhow;
 use page::{Page, Part};
 use pagefile::OpenedPage;
 use std::alloc::{AllocError, Global};
-use std::env;
 use std::time::Instant;
+use std::{env, iter};
+use table::Check;
 
 // Bytes of each text.
 const TEXT: u32 = 30;
@@ -44,39 +45,36 @@ fn page_file(heap: Global, nodes: u32, depth: u8) -> Result<Vec<u8>, AllocError>
     }
     push_u32(&mut file, 0)?;
     push_u32(&mut file, start)?;
-    for _ in 0..start {
-        file.push(b'n')?;
-    }
+    file.extend(iter::repeat_n(b'n', start as usize))?;
     Ok(file)
 }
 
-// The node after n in document order.
+// The node after n in document order: its first child, or the next sibling of the first of it and those above that has one.
 fn next<P: Page>(p: &P, n: usize) -> Option<usize> {
-    if let Some(c) = p.first_child_of(n) {
-        return Some(c);
-    }
-    let mut at = n;
-    for _ in 0..64 {
-        if let Some(s) = p.next_sibling_of(at) {
-            return Some(s);
-        }
-        let Some(up) = p.parent_of(at) else {
-            return None;
-        };
-        at = up;
-    }
-    None
+    p.first_child_of(n).or_else(|| {
+        iter::successors(Some(n), |m| p.parent_of(*m))
+            .take(64)
+            .find_map(|m| p.next_sibling_of(m))
+    })
 }
 
 fn part_sum<P: Page>(p: &P, n: usize, part: Part) -> u64 {
-    let mut sum = 0u64;
-    for i in 0..p.len_of(n, part) {
-        sum = sum.wrapping_add(u64::from(p.byte_of(n, part, i)));
+    (0..p.len_of(n, part))
+        .map(|i| u64::from(p.byte_of(n, part, i)))
+        .fold(0, u64::wrapping_add)
+}
+
+// The sum of a node's bytes. With `flat_map` over the parts the walk was a tenth slower, so it is a loop.
+fn node_sum<P: Page>(p: &P, n: usize) -> u64 {
+    let mut sum = part_sum(p, n, Part::Content);
+    for j in 0..p.attrs_of(n) {
+        sum = sum.wrapping_add(part_sum(p, n, Part::Name(j)));
+        sum = sum.wrapping_add(part_sum(p, n, Part::Value(j)));
     }
     sum
 }
 
-// The sum of all bytes, by walking in document order.
+// The sum of all bytes, by walking in document order. With `successors` the walk was a tenth slower, so it is a loop.
 fn page_sum<P: Page>(p: &P) -> u64 {
     let mut sum = 0u64;
     let mut at = Some(p.root());
@@ -84,34 +82,24 @@ fn page_sum<P: Page>(p: &P) -> u64 {
         let Some(n) = at else {
             break;
         };
-        sum = sum.wrapping_add(part_sum(p, n, Part::Content));
-        for j in 0..p.attrs_of(n) {
-            sum = sum.wrapping_add(part_sum(p, n, Part::Name(j)));
-            sum = sum.wrapping_add(part_sum(p, n, Part::Value(j)));
-        }
+        sum = sum.wrapping_add(node_sum(p, n));
         at = next(p, n);
     }
     sum
 }
 
-// Opens a file and answers how many nodes it has, 0 if it is refused.
-fn open_once(file: &[u8]) -> usize {
+// Opens a file and answers how many nodes it has.
+fn open_once(file: &[u8]) -> Result<usize, Check> {
     let mut page = OpenedPage::new();
-    match page.open(file) {
-        Ok(()) => page.bound(),
-        Err(_) => 0,
-    }
+    page.open(file)?;
+    Ok(page.bound())
 }
 
 // Nanoseconds of one opening.
 fn time_open(rt: &HostRuntime, file: &[u8], turns: u64) -> anyhow::Result<u128> {
     let start = Instant::now(rt)?;
-    let mut seen = 0usize;
     for _ in 0..turns {
-        seen = seen.saturating_add(open_once(file));
-    }
-    if seen == 0 {
-        return Err(anyhow!("a page was refused"));
+        open_once(file).map_err(|_| anyhow!("a page was refused"))?;
     }
     Ok(start.elapsed(rt)?.as_nanos() / u128::from(turns.max(1)))
 }

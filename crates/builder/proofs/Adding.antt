@@ -1,8 +1,9 @@
 -- One node more: the records are those of one row more, the links match, and the state stays sound.
-use Rattle.std.proofs.Common.{◌≡◌, ℕ, zero, suc, ◌+◌, ◌-◌, ◌<◌, ◌≤◌, max, Bool, true, false, cond, eqb, ltb, ◌≢◌, ◌⊎◌, List, [], ◌∷◌, ◌++◌, length, get_or, take, drop, set, Some, None, Option, sym, refl, ap, ◌∙◌, subst, inl, inr, append_assoc, append-nil, add-one, arith, length-append, length-drop, length-set, length-take-le, get_or-set_other, get_or-take, get_or-set_same, take-suc-set, take_at}
+use Rattle.std.proofs.Common.{◌≡◌, ℕ, zero, suc, ◌+◌, ◌-◌, ◌<◌, ◌≤◌, max, Bool, true, false, cond, ltb, ◌≢◌, ◌⊎◌, List, [], ◌∷◌, ◌++◌, length, get_or, take, drop, set, Some, None, Option, sym, refl, ap, ◌∙◌, subst, inl, inr, append_assoc, append-nil, add-one, arith, length-append, length-drop, length-set, length-take-le, get_or-set_other, get_or-take, get_or-set_same, take-suc-set, take_at}
 use lib.Seq.{take-set-lt, map-set_same, get_or_at}
 use Rattle.std.proofs.lemmas.List.{map-append, get_or_past, get_or_append_left}
-use Rattle.std.proofs.lemmas.Bool.{or_cases, eqb-true, cases_lt, cases_eq, cases_order, cond-true, cond-false, lt-ltb, le-ltb}
+use Rattle.std.proofs.lemmas.Bool.Decides.{nat_tests}
+use Rattle.std.proofs.lemmas.Bool.{cases_lt, cases_eq, cases_order, cond-true, cond-false, lt-ltb, le-ltb}
 use Rattle.utf8.specs.Table.{well_formed}
 use Rattle.page.specs.declared.kind.NodeKind.{NodeKind}
 use Rattle.page.specs.declared.kind.NodeKind.TheVariants.{Document, Doctype, Text, Comment, Element}
@@ -57,15 +58,10 @@ pub record Granted (s : State) (k : NodeKind) (c : List ℕ) : Type 0 where
   pub inner : is_document k ≡ false
 
 parent-kind : (k : ℕ) → is_parent_code k ≡ true → is_parent (kind_with k) ≡ true
-parent-kind k h = go (or_cases (eqb k 0) (eqb k 4) h)
-  where
-    go : (eqb k 0 ≡ true) ⊎ (eqb k 4 ≡ true) → is_parent (kind_with k) ≡ true
-    go (inl e) = ap (λ n. is_parent (kind_with n)) (eqb-true k 0 e)
-    go (inr e) = ap (λ n. is_parent (kind_with n)) (eqb-true k 4 e)
+parent-kind k h = grind (arith, nat_tests)
 
 reach-own : (b : Bool) (n : ℕ) → n ≤ cond b (suc n) n
-reach-own true n = omega arith
-reach-own false n = omega arith
+reach-own b n = grind arith
 
 bare-none : (k : NodeKind) (d : ℕ) (c : List ℕ) → bare (row k d c []) ≡ true
 bare-none Document d c = refl
@@ -225,7 +221,7 @@ module _ (s : State) (k : NodeKind) (c : List ℕ) (h : Sound s) (g : Granted s 
           let e : suc i ≡ n = omega arith in
           let gone : depth_at t (suc i) ≡ 0 = ap (λ (x : NodeRecord). x.depth) (get_or_past t.nodes (suc i) no_node (omega (arith, long))) in
           let there : depth_at u (suc i) ≡ d = ap (depth_at u) e ∙ new in
-          cond-false (ltb (depth_at u i) (depth_at u (suc i))) _ _ (le-ltb _ _ (omega (arith, same i l))) ∙ sym (cond-false (ltb (depth_at t i) (depth_at t (suc i))) _ _ (le-ltb _ _ (omega arith)))
+          let before = same i l in grind (arith, nat_tests)
 
   sibling-keeps : (i : ℕ) → i < n → (((m : ℕ) → i < m → m < n → depth_at t i < depth_at t m) → d ≡ depth_at t i → ⊥) → sibling_link u i ≡ sibling_link t i
   sibling-keeps i l off = go (scan t i n)

@@ -62,17 +62,17 @@ module _ (s : State) (name value : List ℕ) (h : Sound s) (g : AttrGranted s na
   abbrev ys : List Row
   ys = rows_from t 0 m
 
-  abbrev cc : List ℕ
-  cc = part t (node_at t m).start (node_at t m).len
+  abbrev bs : List ℕ
+  bs = part t (node_at t m).start (node_at t m).len
 
   abbrev aa : List (List ℕ × List ℕ)
   aa = attrs_from t (node_at t m).first (node_at t m).attrs
 
   abbrev z : Row
-  z = row Element (depth_at t m) cc aa
+  z = row Element (depth_at t m) bs aa
 
   abbrev z2 : Row
-  z2 = row Element (depth_at t m) cc (aa ++ ((name, value) ∷ []))
+  z2 = row Element (depth_at t m) bs (aa ++ ((name, value) ∷ []))
 
   abbrev U : Table
   U = tabulate ys
@@ -81,7 +81,7 @@ module _ (s : State) (name value : List ℕ) (h : Sound s) (g : AttrGranted s na
   rows_before =
       let many : length t.nodes ≡ suc m = omega (arith, table-nodes s h, g.end) in
       let zero : 0 + m ≡ m = omega arith in
-      ap (rows_from t 0) many ∙ (rows_last t m 0 ∙ ((λ q. ys ++ (row_at t (zero q) ∷ [])) ∙ (λ q. ys ++ (row (kind_with (g.element q)) (depth_at t m) cc aa ∷ []))))
+      ap (rows_from t 0) many ∙ (rows_last t m 0 ∙ ((λ q. ys ++ (row_at t (zero q) ∷ [])) ∙ (λ q. ys ++ (row (kind_with (g.element q)) (depth_at t m) bs aa ∷ []))))
 
   was : t ≡ behind U z
   was = sym (tabulated t acc) ∙ (ap tabulate rows_before ∙ tabulate-snoc ys z)
@@ -105,7 +105,7 @@ module _ (s : State) (name value : List ℕ) (h : Sound s) (g : AttrGranted s na
   more-is =
       let long : length aa + 1 ≡ length (aa ++ ((name, value) ∷ [])) = sym (length-append aa ((name, value) ∷ [])) in
       ap (λ (x : NodeRecord). record { kind = x.kind; depth = x.depth; attrs = x.attrs + 1; first = x.first; start = x.start; len = x.len }) element-record
-      ∙ (λ q. record { kind = 4; depth = depth_at t m; attrs = long q; first = length U.attrs; start = length U.bytes; len = length cc })
+      ∙ (λ q. record { kind = 4; depth = depth_at t m; attrs = long q; first = length U.attrs; start = length U.bytes; len = length bs })
 
   nodes-set : used_nodes (with_attr s name value) ≡ set (used_nodes s) m (one_more (open_node s))
   nodes-set = take-set-lt n s.nodes m (one_more (open_node s)) h.inside
@@ -117,24 +117,24 @@ module _ (s : State) (name value : List ℕ) (h : Sound s) (g : AttrGranted s na
   nodes-are : u.nodes ≡ U.nodes ++ (record_behind U z2 ∷ [])
   nodes-are = records-set ∙ ((λ q. set (was q).nodes m (more-is q)) ∙ set_at U.nodes (record_behind U z) [] (record_behind U z2) m size)
 
-  start : s.used.bytes ≡ length U.bytes + length cc + length (joined aa)
-  start = sym (used-bytes s h) ∙ (ap (λ (v : Table). length v.bytes) was ∙ (length-append U.bytes (bytes_of z) ∙ omega (arith, length-append cc (joined aa))))
+  start : s.used.bytes ≡ length U.bytes + length bs + length (joined aa)
+  start = sym (used-bytes s h) ∙ (ap (λ (v : Table). length v.bytes) was ∙ (length-append U.bytes (bytes_of z) ∙ omega (arith, length-append bs (joined aa))))
 
-  attrs-are : u.attrs ≡ U.attrs ++ attr_records (length U.bytes + length cc) (aa ++ ((name, value) ∷ []))
+  attrs-are : u.attrs ≡ U.attrs ++ attr_records (length U.bytes + length bs) (aa ++ ((name, value) ∷ []))
   attrs-are =
-      let b = length U.bytes + length cc in
+      let b = length U.bytes + length bs in
       let one = take-suc-set s.attrs s.used.attrs (record { name = length name; value = length value; start = s.used.bytes }) g.free in
       ap (λ k. take k (with_attr s name value).attrs) (add-one s.used.attrs)
       ∙ (one ∙ ((λ q. (was q).attrs ++ (record { name = length name; value = length value; start = start q } ∷ []))
       ∙ (append_assoc U.attrs (attr_records b aa) _ ∙ ap (λ l. U.attrs ++ l) (sym (attr_records-snoc aa (name, value) b)))))
 
-  bytes-are : u.bytes ≡ U.bytes ++ (cc ++ joined (aa ++ ((name, value) ∷ [])))
+  bytes-are : u.bytes ≡ U.bytes ++ (bs ++ joined (aa ++ ((name, value) ∷ [])))
   bytes-are =
       let long : length name + length value ≡ length (name ++ value) = sym (length-append name value) in
       ap (λ k. take (s.used.bytes + k) (with_attr s name value).bytes) long
       ∙ (take_put s.bytes s.used.bytes (name ++ value) h.bytes
       ∙ ((λ q. (was q).bytes ++ (name ++ value))
-      ∙ (append_assoc U.bytes (cc ++ joined aa) (name ++ value) ∙ ap (λ l. U.bytes ++ l) (append_assoc cc (joined aa) (name ++ value) ∙ ap (λ l. cc ++ l) (sym (joined_snoc aa (name, value)))))))
+      ∙ (append_assoc U.bytes (bs ++ joined aa) (name ++ value) ∙ ap (λ l. U.bytes ++ l) (append_assoc bs (joined aa) (name ++ value) ∙ ap (λ l. bs ++ l) (sym (joined_snoc aa (name, value)))))))
 
   rows_are : u ≡ tabulate (ys ++ (z2 ∷ []))
   rows_are = (λ q. record { nodes = nodes-are q; attrs = attrs-are q; bytes = bytes-are q }) ∙ sym (tabulate-snoc ys z2)
@@ -145,9 +145,9 @@ module _ (s : State) (name value : List ℕ) (h : Sound s) (g : AttrGranted s na
       let texts = (formed-parts ys (z ∷ []) old.texts).1 in
       let few = g.few in
       let short = g.short in
-      let attrs : attr_count ys + length aa ≡ s.used.attrs = omega (arith, ap (λ (v : Table). length v.attrs) was, used-attrs s h, length-append U.attrs (attr_records (length U.bytes + length cc) aa), length-all_attrs 0 ys, length-records (length U.bytes + length cc) aa) in
+      let attrs : attr_count ys + length aa ≡ s.used.attrs = omega (arith, ap (λ (v : Table). length v.attrs) was, used-attrs s h, length-append U.attrs (attr_records (length U.bytes + length bs) aa), length-all_attrs 0 ys, length-records (length U.bytes + length bs) aa) in
       let bytes : length (joined (aa ++ ((name, value) ∷ []))) ≡ length (joined aa) + (length name + length value) = ap length (joined_snoc aa (name, value)) ∙ (length-append (joined aa) (name ++ value) ∙ ap (λ k. length (joined aa) + k) (length-append name value)) in
-      fit-attrs ys (depth_at t m) cc aa (aa ++ ((name, value) ∷ [])) old (formed-snoc aa (name, value) texts.1 g.name_formed g.value_formed)
+      fit-attrs ys (depth_at t m) bs aa (aa ++ ((name, value) ∷ [])) old (formed-snoc aa (name, value) texts.1 g.name_formed g.value_formed)
       (omega (arith, length-append aa ((name, value) ∷ []))) (omega (arith, start))
 
   pub attributed-rows : rows_of u ≡ ys ++ (z2 ∷ [])
@@ -165,11 +165,11 @@ module _ (s : State) (name value : List ℕ) (h : Sound s) (g : AttrGranted s na
       go (inl e) =
           let at : node_at u i ≡ more = ap (λ l. get_or l i no_node) records-set ∙ (ap (λ j. get_or (set t.nodes m more) j no_node) e ∙ get_or-set_same t.nodes m more no_node (omega (arith, table-nodes s h, h.inside))) in
           let own : node_at t i ≡ (open_node s).node = ap (node_at t) e ∙ open_in s h in
-          (ap (λ (x : NodeRecord). x.depth) at ∙ sym (ap (λ (x : NodeRecord). x.depth) own), ap (λ (x : NodeRecord). x.kind) at ∙ sym (ap (λ (x : NodeRecord). x.kind) own))
+          (cc, cc)
       go (inr e) =
           let ne : i ≢ m = e in
           let at : node_at u i ≡ node_at t i = ap (λ l. get_or l i no_node) records-set ∙ get_or-set_other t.nodes m i more no_node ne in
-          (ap (λ (x : NodeRecord). x.depth) at, ap (λ (x : NodeRecord). x.kind) at)
+          (cc, cc)
 
   pub same : (i : ℕ) → depth_at u i ≡ depth_at t i
   same i = (node-like i).0
@@ -195,11 +195,11 @@ module _ (s : State) (name value : List ℕ) (h : Sound s) (g : AttrGranted s na
       links (inl e) =
           let at : get_or xs i no_linked ≡ one_more (open_node s) = ap (λ v. get_or v i no_linked) nodes-set ∙ (ap (λ j. get_or (set (used_nodes s) m (one_more (open_node s))) j no_linked) e ∙ get_or-set_same (used_nodes s) m (one_more (open_node s)) no_linked (omega (arith, used-nodes s h, h.inside))) in
           let own : get_or (used_nodes s) i no_linked ≡ open_node s = ap (λ j. get_or (used_nodes s) j no_linked) e ∙ get_or-take n s.nodes m no_linked h.inside in
-          (ap (λ (v : LinkedNode). v.parent) at ∙ sym (ap (λ (v : LinkedNode). v.parent) own), ap (λ (v : LinkedNode). v.first_child) at ∙ sym (ap (λ (v : LinkedNode). v.first_child) own), ap (λ (v : LinkedNode). v.next_sibling) at ∙ sym (ap (λ (v : LinkedNode). v.next_sibling) own))
+          (cc, cc, cc)
       links (inr e) =
           let ne : i ≢ m = e in
           let at : get_or xs i no_linked ≡ get_or (used_nodes s) i no_linked = ap (λ v. get_or v i no_linked) nodes-set ∙ get_or-set_other (used_nodes s) m i _ no_linked ne in
-          (ap (λ (v : LinkedNode). v.parent) at, ap (λ (v : LinkedNode). v.first_child) at, ap (λ (v : LinkedNode). v.next_sibling) at)
+          (cc, cc, cc)
 
   pub attributed-sound : Sound (with_attr s name value)
   attributed-sound =

@@ -1,6 +1,6 @@
 -- A builder that was just given its records is sound, and the law holds of it.
-use Rattle.std.proofs.Common.{◌≡◌, ℕ, suc, ◌<◌, true, leb, List, [], ◌∷◌, length, Some, None, refl, arith}
-use Rattle.std.proofs.lemmas.Bool.{and_from, le-leb}
+use Rattle.std.proofs.Common.{◌≡◌, ℕ, ◌<◌, true, List, [], ◌∷◌, length, Some, None, refl, arith}
+use Rattle.std.proofs.lemmas.Bool.Decides.{nat_tests}
 use Rattle.table.specs.declared.record.AttrRecord.{AttrRecord}
 use Rattle.linked.specs.declared.node.LinkedNode.{LinkedNode}
 use Rattle.builder.specs.declared.refusal.BuildRefusal.TheVariants.{Full}
@@ -13,8 +13,7 @@ use Rattle.builder.proofs.Law.{Told, law}
 module _ (attrs : List AttrRecord) (bytes : List ℕ) where
   pub begun-sound : (nodes : List LinkedNode) → 0 < length nodes → sound (begun nodes attrs bytes) ≡ true
   begun-sound [] l = absurd (omega arith)
-  begun-sound (x ∷ xs) l =
-      and_from (leb 1 (suc (length xs))) _ (le-leb _ _ (omega arith)) (and_from (leb 0 (length attrs)) _ (le-leb _ _ (omega arith)) (and_from (leb 0 (length bytes)) _ (le-leb _ _ (omega arith)) refl))
+  begun-sound (x ∷ xs) l = grind (arith, nat_tests)
 
   begun-told : (nodes : List LinkedNode) → 0 < length nodes → Told (begun nodes attrs bytes) []
   begun-told [] l = absurd (omega arith)

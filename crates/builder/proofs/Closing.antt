@@ -76,7 +76,7 @@ module _ (s : State) (h : Sound s) (some : s.current ≡ 0 → ⊥) where
       }
     where
       between : (suc q ≡ p) ⊎ (suc q ≡ p → ⊥) → Above t (depth_at t p) p q → depth_at t p ≤ depth_at t (suc q)
-      between (inl z) a = let w : depth_at t (suc q) ≡ depth_at t p = ap (depth_at t) z in omega arith
+      between (inl z) a = omega (arith, ap (depth_at t) z)
       between (inr z) a = let l = a.before in a.between (suc q) (omega arith) (omega arith)
 
       far : (j : ℕ) → q < j → j < s.used.nodes → (j ≡ p) ⊎ ((j < p) ⊎ (p < j)) → Above t (depth_at t p) p q → depth_at t q < depth_at t j

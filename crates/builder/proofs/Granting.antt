@@ -1,6 +1,8 @@
 -- An event that is answered yes keeps a state sound.
-use Rattle.std.proofs.Common.{◌≡◌, ℕ, ◌+◌, ◌<◌, Bool, true, false, not, ◌&&◌, eqb, leb, List, [], ◌∷◌, length, None, refl, subst, arith}
-use Rattle.std.proofs.lemmas.Bool.{and_parts, leb-true, ltb-true, eqb-false, not-true}
+use Rattle.std.proofs.Common.{◌≡◌, ℕ, ◌+◌, ◌<◌, Bool, true, false, ◌&&◌, leb, List, [], ◌∷◌, length, None, refl, subst, arith}
+use Rattle.std.proofs.lemmas.Bool.Decides.{nat_tests}
+use Rattle.std.proofs.lemmas.Bool.{and_parts, leb-true, ltb-true}
+use Rattle.std.proofs.lemmas.Grind.{common_steps}
 use Rattle.utf8.specs.Table.{well_formed}
 use Rattle.page.specs.declared.kind.NodeKind.{NodeKind}
 use Rattle.page.specs.declared.kind.NodeKind.TheVariants.{Doctype, Text, Comment, Element}
@@ -19,21 +21,15 @@ use Rattle.builder.proofs.Closing.{closed-sound}
 -- where no question is answered no, each is answered yes
 one-yes : (a : Bool) (x : BuildRefusal) (qs : List (Bool × BuildRefusal)) → first_no ((a, x) ∷ qs) ≡ None → (a ≡ true) × (first_no qs ≡ None)
 one-yes true x qs h = (refl, h)
-one-yes false x qs h = absurd (let z : ◌≡◌ {A = ℕ} 0 1 = cc in omega arith)
+one-yes false x qs h = cc
 
 three-yes : (a b c : Bool) (x y z : BuildRefusal) → first_no ((a, x) ∷ (b, y) ∷ (c, z) ∷ []) ≡ None → (a ≡ true) × (b ≡ true) × (c ≡ true)
-three-yes a b c x y z h =
-    let p = one-yes a x ((b, y) ∷ (c, z) ∷ []) h in
-    let q = one-yes b y ((c, z) ∷ []) p.1 in
-    (p.0, q.0, (one-yes c z [] q.1).0)
+three-yes a b c x y z h = grind (arith, common_steps)
 
 pub node-granted : (s : State) (k : NodeKind) (c : List ℕ) → is_document k ≡ false → first_no (of_node s c) ≡ None → Granted s k c
 node-granted s k c inner h =
     let a = three-yes (node_free s && bytes_free s (length c)) (leb (next_depth s) 62) (well_formed c) Full TooDeep IllFormed h in
-    let r = and_parts (node_free s) (bytes_free s (length c)) a.0 in
-    let x = ltb-true _ _ r.0 in
-    let y = leb-true _ _ r.1 in
-    record { free = omega arith; few = omega arith; fits = omega arith; short = omega arith; shallow = leb-true _ _ a.1; formed = a.2; inner = inner }
+    grind (arith, nat_tests)
 
 module _ (s : State) (n v : List ℕ) (e : answer s (attribute n v) ≡ None) where
   yeses : (s.fresh ≡ true) × ((narrow n && (narrow v && (attr_free s && bytes_free s (length n + length v)))) ≡ true) × ((well_formed n && well_formed v) ≡ true)
@@ -45,7 +41,7 @@ module _ (s : State) (n v : List ℕ) (e : answer s (attribute n v) ≡ None) wh
 
   -- the lengths of its name and value fit their fields
   pub attr-narrow : (length n < 65536) × (length v < 65536)
-  attr-narrow = let r = and_parts (narrow n) _ yeses.1 in (ltb-true _ _ r.0, ltb-true _ _ (and_parts (narrow v) _ r.1).0)
+  attr-narrow = let y = yeses in grind (arith, nat_tests)
 
   pub attr-granted : Sound s → AttrGranted s n v
   attr-granted h =
@@ -59,7 +55,7 @@ module _ (s : State) (n v : List ℕ) (e : answer s (attribute n v) ≡ None) wh
       record { free = omega arith; few = omega arith; fits = omega arith; short = omega arith; name_formed = p.0; value_formed = p.1; element = f.1; childless = f.0; end = l }
 
 pub some-open : (s : State) → answer s close ≡ None → s.current ≡ 0 → ⊥
-some-open s h = eqb-false s.current 0 (not-true _ (one-yes (not (eqb s.current 0)) Misplaced [] h).0)
+some-open s h = grind (arith, nat_tests)
 
 pub granted-sound : (s : State) (e : Event) → Sound s → answer s e ≡ None → Sound (granted s e)
 granted-sound s (element c) h a = opened-sound s Element c h (node-granted s Element c refl a) refl

@@ -1,6 +1,7 @@
 -- A sound state that answers yes has the room that adding asks for.
-use Rattle.std.proofs.Common.{◌≡◌, ℕ, ◌<◌, true, not, cond, List, length, Some, None, Option, ◌⊎◌, sym, refl, ap, ◌∙◌, inl, inr, arith, get_or-take}
-use Rattle.std.proofs.lemmas.Bool.{cases_eq, eq-eqb, ne_eqb}
+use Rattle.std.proofs.Common.{◌≡◌, ℕ, ◌<◌, true, List, length, Some, None, Option, ◌⊎◌, sym, refl, ap, ◌∙◌, inl, inr, arith, get_or-take}
+use Rattle.std.proofs.lemmas.Bool.Decides.{nat_tests}
+use Rattle.std.proofs.lemmas.Bool.{cases_eq}
 use Rattle.page.specs.declared.kind.NodeKind.TheVariants.{Text}
 use Rattle.table.specs.Table.{Table}
 use Rattle.table.specs.Links.{depth_at}
@@ -81,7 +82,7 @@ no-parent s ok none = go (cases_eq s.current 0)
 
 -- closing is refused to the document alone
 pub refused-close : (s : State) → sound s ≡ true → ((q : ℕ) → (open_node s).parent ≡ Some q → ⊥) → answer s close ≡ Some Misplaced
-refused-close s ok none = ap (λ v. cond (not v) None (Some Misplaced)) (eq-eqb s.current 0 (no-parent s ok none))
+refused-close s ok none = let z = no-parent s ok none in grind (arith, nat_tests)
 
 pub granted-close : (s : State) (q : ℕ) → sound s ≡ true → (open_node s).parent ≡ Some q → answer s close ≡ None
-granted-close s q ok e = ap (λ v. cond (not v) None (Some Misplaced)) (ne_eqb s.current 0 (λ z. let l = parent-before s q ok e in omega arith))
+granted-close s q ok e = let l = parent-before s q ok e in grind (arith, nat_tests)

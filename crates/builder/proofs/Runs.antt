@@ -1,53 +1,41 @@
 -- One event more: the rows that the events give.
 use Rattle.std.proofs.Common.{◌≡◌, ℕ, suc, ◌-◌, Bool, true, false, ◌⊎◌, List, [], ◌∷◌, ◌++◌, sym, refl, ap, ◌∙◌, inl, inr}
-use Rattle.std.proofs.lemmas.Bool.{both_ways, cases_Bool}
+use Rattle.std.specs.List.{fold}
+use Rattle.std.proofs.lemmas.Bool.{cases_Bool}
+use Rattle.std.proofs.lemmas.List.Sums.{fold-append}
 use Rattle.page.specs.declared.kind.NodeKind.TheVariants.{Document, Doctype, Text, Comment, Element}
 use Rattle.table.specs.Rows.{Row}
 use Rattle.builder.specs.Events.{Event, element, attribute, text, comment, doctype, close, attrs_first, row, rows_at, event_rows}
 
 -- the depth at which the next node stands
+abbrev depth_step : ℕ → Event → ℕ
+depth_step d (element c) = suc d
+depth_step d (attribute n v) = d
+depth_step d (text c) = d
+depth_step d (comment c) = d
+depth_step d (doctype c) = d
+depth_step d close = d - 1
+
 abbrev pub depth_after : ℕ → List Event → ℕ
-depth_after d [] = d
-depth_after d (element c ∷ es) = depth_after (suc d) es
-depth_after d (attribute n v ∷ es) = depth_after d es
-depth_after d (text c ∷ es) = depth_after d es
-depth_after d (comment c ∷ es) = depth_after d es
-depth_after d (doctype c ∷ es) = depth_after d es
-depth_after d (close ∷ es) = depth_after (d - 1) es
+depth_after d es = fold depth_step d es
 
 -- whether an element was just given, and since then attributes only
-abbrev pub ends_fresh : Bool → List Event → Bool
-ends_fresh b [] = b
-ends_fresh b (element c ∷ es) = ends_fresh true es
-ends_fresh b (attribute n v ∷ es) = ends_fresh b es
-ends_fresh b (text c ∷ es) = ends_fresh false es
-ends_fresh b (comment c ∷ es) = ends_fresh false es
-ends_fresh b (doctype c ∷ es) = ends_fresh false es
-ends_fresh b (close ∷ es) = ends_fresh false es
+abbrev fresh_step : Bool → Event → Bool
+fresh_step b (element c) = true
+fresh_step b (attribute n v) = b
+fresh_step b (text c) = false
+fresh_step b (comment c) = false
+fresh_step b (doctype c) = false
+fresh_step b close = false
 
-depth-append : (d : ℕ) (es fs : List Event) → depth_after d (es ++ fs) ≡ depth_after (depth_after d es) fs
-depth-append d [] fs = refl
-depth-append d (element c ∷ es) fs = depth-append (suc d) es fs
-depth-append d (attribute n v ∷ es) fs = depth-append d es fs
-depth-append d (text c ∷ es) fs = depth-append d es fs
-depth-append d (comment c ∷ es) fs = depth-append d es fs
-depth-append d (doctype c ∷ es) fs = depth-append d es fs
-depth-append d (close ∷ es) fs = depth-append (d - 1) es fs
+abbrev pub ends_fresh : Bool → List Event → Bool
+ends_fresh b es = fold fresh_step b es
 
 pub depth-snoc : (d : ℕ) (es : List Event) (e : Event) → depth_after d (es ++ (e ∷ [])) ≡ depth_after (depth_after d es) (e ∷ [])
-depth-snoc d es e = depth-append d es (e ∷ [])
-
-fresh-append : (b : Bool) (es fs : List Event) → ends_fresh b (es ++ fs) ≡ ends_fresh (ends_fresh b es) fs
-fresh-append b [] fs = refl
-fresh-append b (element c ∷ es) fs = fresh-append true es fs
-fresh-append b (attribute n v ∷ es) fs = fresh-append b es fs
-fresh-append b (text c ∷ es) fs = fresh-append false es fs
-fresh-append b (comment c ∷ es) fs = fresh-append false es fs
-fresh-append b (doctype c ∷ es) fs = fresh-append false es fs
-fresh-append b (close ∷ es) fs = fresh-append false es fs
+depth-snoc d es e = fold-append depth_step d es (e ∷ [])
 
 pub fresh-snoc : (b : Bool) (es : List Event) (e : Event) → ends_fresh b (es ++ (e ∷ [])) ≡ ends_fresh (ends_fresh b es) (e ∷ [])
-fresh-snoc b es e = fresh-append b es (e ∷ [])
+fresh-snoc b es e = fold-append fresh_step b es (e ∷ [])
 
 -- an event that begins with no attribute adds none to the element before
 first-append : (es fs : List Event) → attrs_first fs ≡ [] → attrs_first (es ++ fs) ≡ attrs_first es
@@ -100,33 +88,33 @@ only_attrs (close ∷ es) = false
 only-rows : (d : ℕ) (es : List Event) → only_attrs es ≡ true → rows_at d es ≡ []
 only-rows d [] h = refl
 only-rows d (attribute n v ∷ es) h = only-rows d es h
-only-rows d (element c ∷ es) h = absurd (both_ways false refl h)
-only-rows d (text c ∷ es) h = absurd (both_ways false refl h)
-only-rows d (comment c ∷ es) h = absurd (both_ways false refl h)
-only-rows d (doctype c ∷ es) h = absurd (both_ways false refl h)
-only-rows d (close ∷ es) h = absurd (both_ways false refl h)
+only-rows d (element c ∷ es) h = cc
+only-rows d (text c ∷ es) h = cc
+only-rows d (comment c ∷ es) h = cc
+only-rows d (doctype c ∷ es) h = cc
+only-rows d (close ∷ es) h = cc
 
 only-more : (es : List Event) (n v : List ℕ) → only_attrs es ≡ true → only_attrs (es ++ (attribute n v ∷ [])) ≡ true
 only-more [] n v h = refl
 only-more (attribute m w ∷ es) n v h = only-more es n v h
-only-more (element c ∷ es) n v h = absurd (both_ways false refl h)
-only-more (text c ∷ es) n v h = absurd (both_ways false refl h)
-only-more (comment c ∷ es) n v h = absurd (both_ways false refl h)
-only-more (doctype c ∷ es) n v h = absurd (both_ways false refl h)
-only-more (close ∷ es) n v h = absurd (both_ways false refl h)
+only-more (element c ∷ es) n v h = cc
+only-more (text c ∷ es) n v h = cc
+only-more (comment c ∷ es) n v h = cc
+only-more (doctype c ∷ es) n v h = cc
+only-more (close ∷ es) n v h = cc
 
 only-first : (es : List Event) (n v : List ℕ) → only_attrs es ≡ true → attrs_first (es ++ (attribute n v ∷ [])) ≡ attrs_first es ++ ((n, v) ∷ [])
 only-first [] n v h = refl
 only-first (attribute m w ∷ es) n v h = ap (λ l. (m, w) ∷ l) (only-first es n v h)
-only-first (element c ∷ es) n v h = absurd (both_ways false refl h)
-only-first (text c ∷ es) n v h = absurd (both_ways false refl h)
-only-first (comment c ∷ es) n v h = absurd (both_ways false refl h)
-only-first (doctype c ∷ es) n v h = absurd (both_ways false refl h)
-only-first (close ∷ es) n v h = absurd (both_ways false refl h)
+only-first (element c ∷ es) n v h = cc
+only-first (text c ∷ es) n v h = cc
+only-first (comment c ∷ es) n v h = cc
+only-first (doctype c ∷ es) n v h = cc
+only-first (close ∷ es) n v h = cc
 
 -- behind another event, what stood before does not matter
 mixed-first : (es fs : List Event) → only_attrs es ≡ false → attrs_first (es ++ fs) ≡ attrs_first es
-mixed-first [] fs h = absurd (both_ways true h refl)
+mixed-first [] fs h = cc
 mixed-first (attribute m w ∷ es) fs h = ap (λ l. (m, w) ∷ l) (mixed-first es fs h)
 mixed-first (element c ∷ es) fs h = refl
 mixed-first (text c ∷ es) fs h = refl
@@ -135,7 +123,7 @@ mixed-first (doctype c ∷ es) fs h = refl
 mixed-first (close ∷ es) fs h = refl
 
 mixed-fresh : (b : Bool) (es : List Event) → only_attrs es ≡ false → ends_fresh b es ≡ ends_fresh false es
-mixed-fresh b [] h = absurd (both_ways true h refl)
+mixed-fresh b [] h = cc
 mixed-fresh b (attribute m w ∷ es) h = mixed-fresh b es h
 mixed-fresh b (element c ∷ es) h = refl
 mixed-fresh b (text c ∷ es) h = refl
@@ -145,7 +133,7 @@ mixed-fresh b (close ∷ es) h = refl
 
 -- an element that was just given is a row
 fresh-rows : (d : ℕ) (es : List Event) → ends_fresh false es ≡ true → SomeRows (rows_at d es)
-fresh-rows d [] h = absurd (both_ways false refl h)
+fresh-rows d [] h = cc
 fresh-rows d (element c ∷ es) h = tt
 fresh-rows d (attribute n v ∷ es) h = fresh-rows d es h
 fresh-rows d (text c ∷ es) h = tt
@@ -155,7 +143,7 @@ fresh-rows d (close ∷ es) h = fresh-rows (d - 1) es h
 
 -- an attribute goes to the last row
 rows-attr : (d : ℕ) (es : List Event) (n v : List ℕ) → ends_fresh false es ≡ true → rows_at d (es ++ (attribute n v ∷ [])) ≡ more_attr (rows_at d es) (n, v)
-rows-attr d [] n v h = absurd (both_ways false refl h)
+rows-attr d [] n v h = cc
 rows-attr d (element c ∷ es) n v h = go (cases_Bool (only_attrs es)) (rows-attr (suc d) es n v)
   where
     go : (only_attrs es ≡ true) ⊎ (only_attrs es ≡ false) → (ends_fresh false es ≡ true → rows_at (suc d) (es ++ (attribute n v ∷ [])) ≡ more_attr (rows_at (suc d) es) (n, v))

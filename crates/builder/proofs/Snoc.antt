@@ -1,6 +1,7 @@
 -- One row more, and one attribute more of the last row: the records, and that they still fit.
 use Rattle.std.proofs.Common.{◌≡◌, ℕ, zero, suc, ◌+◌, ◌<◌, ◌≤◌, true, false, not, ◌&&◌, ◌||◌, eqb, leb, List, [], ◌∷◌, ◌++◌, length, sym, refl, ap, ◌∙◌, append_assoc, append-nil, arith, length-append}
-use Rattle.std.proofs.lemmas.Bool.{and_parts, and_from, le-leb, eqb-true, both_ways}
+use Rattle.std.proofs.lemmas.Bool.Decides.{nat_tests}
+use Rattle.std.proofs.lemmas.Bool.{and_parts, and_from, eqb-true, both_ways}
 use Rattle.utf8.specs.Table.{well_formed}
 use Rattle.page.specs.declared.kind.NodeKind.{NodeKind}
 use Rattle.page.specs.declared.kind.NodeKind.TheVariants.{Document, Doctype, Text, Comment, Element}
@@ -143,8 +144,7 @@ pub record Next (m : ℕ) (y : Row) : Type 0 where
   pub plain : bare y ≡ true
 
 steps-snoc : (xs : List Row) (m : ℕ) (y : Row) → steps m xs ≡ true → Next (last_reach m xs) y → steps m (xs ++ (y ∷ [])) ≡ true
-steps-snoc [] m y h n =
-    and_from _ _ (and_from (leb 1 y.depth) _ (le-leb _ _ n.low) (and_from (leb y.depth m) _ (le-leb _ _ n.near) (and_from (leb y.depth 62) _ (le-leb _ _ n.high) (and_from (not (is_document y.kind)) (bare y) (ap not n.inner) n.plain)))) refl
+steps-snoc [] m y h n = grind (arith, nat_tests)
 steps-snoc (x ∷ xs) m y h n = let p = and_parts _ (steps (reach x) xs) h in and_from _ _ p.0 (steps-snoc xs (reach x) y p.1 n)
 
 pub fit-snoc : (xs : List Row) (y : Row) → RowsFit xs → Next (last_reach 0 xs) y → length xs < 4096 → well_formed y.content ≡ true → AttrsFormed y.attrs
@@ -155,15 +155,8 @@ fit-snoc (x ∷ xs) y fit n few text attrs a b =
     let f = form x xs fit.shape in
     let one : length (xs ++ (y ∷ [])) ≡ length xs + 1 = length-append xs (y ∷ []) in
     let long : length (all_bytes all) ≡ length (all_bytes (x ∷ xs)) + length (bytes_of y) = ap length (bytes-append (x ∷ xs) (y ∷ []) ∙ ap (λ l. all_bytes (x ∷ xs) ++ l) (append-nil (bytes_of y))) ∙ length-append (all_bytes (x ∷ xs)) (bytes_of y) in
-    let p = and_parts (eqb x.depth 0 && (is_document x.kind && (bare x && (leb (suc (length xs)) 4096 && leb (total (x ∷ xs)) 131072)))) _ fit.shape in
-    let d = and_parts (eqb x.depth 0) _ p.0 in
-    let k = and_parts (is_document x.kind) _ d.1 in
-    let e = and_parts (bare x) _ k.1 in
     record {
-      shape =
-          and_from _ _
-          (and_from (eqb x.depth 0) _ d.0 (and_from (is_document x.kind) _ k.0 (and_from (bare x) _ e.0 (and_from (leb (suc (length (xs ++ (y ∷ [])))) 4096) _ (le-leb _ _ (omega arith)) (le-leb _ _ (omega (arith, total-bytes all)))))))
-          (steps-snoc xs (reach x) y f.next n);
+      shape = let head = fit.shape in let more = steps-snoc xs (reach x) y f.next n in let most = total-bytes all in grind (arith, nat_tests);
       root = fit.root;
       texts = formed-append (x ∷ xs) (y ∷ []) fit.texts (text, attrs, tt);
       attrs = omega (arith, attr_count-append (x ∷ xs) (y ∷ []));
@@ -187,18 +180,11 @@ fit-attrs (x ∷ xs) d c a b fit fb na nb =
     let all = (x ∷ xs) ++ (z ∷ []) in
     let f = form x (xs ++ (y ∷ [])) fit.shape in
     let texts = formed-parts (x ∷ xs) (y ∷ []) fit.texts in
-    let p = and_parts (eqb x.depth 0 && (is_document x.kind && (bare x && (leb (suc (length (xs ++ (y ∷ [])))) 4096 && leb (total (x ∷ (xs ++ (y ∷ [])))) 131072)))) _ fit.shape in
-    let g = and_parts (eqb x.depth 0) _ p.0 in
-    let k = and_parts (is_document x.kind) _ g.1 in
-    let e = and_parts (bare x) _ k.1 in
     let few = f.few in
     let one : length (xs ++ (z ∷ [])) ≡ length (xs ++ (y ∷ [])) = length-append xs (z ∷ []) ∙ sym (length-append xs (y ∷ [])) in
     let long : length (all_bytes all) ≡ length (all_bytes (x ∷ xs)) + (length c + length (joined b)) = ap length (bytes-append (x ∷ xs) (z ∷ []) ∙ ap (λ l. all_bytes (x ∷ xs) ++ l) (append-nil (bytes_of z))) ∙ (length-append (all_bytes (x ∷ xs)) (bytes_of z) ∙ ap (λ n. length (all_bytes (x ∷ xs)) + n) (length-append c (joined b))) in
     record {
-      shape =
-          and_from _ _
-          (and_from (eqb x.depth 0) _ g.0 (and_from (is_document x.kind) _ k.0 (and_from (bare x) _ e.0 (and_from (leb (suc (length (xs ++ (z ∷ [])))) 4096) _ (le-leb _ _ (omega arith)) (le-leb _ _ (omega (arith, total-bytes all)))))))
-          (sym (steps-attrs xs (reach x) d c a b) ∙ f.next);
+      shape = let head = fit.shape in let more = sym (steps-attrs xs (reach x) d c a b) ∙ f.next in let most = total-bytes all in grind (arith, nat_tests);
       root = fit.root;
       texts = formed-append (x ∷ xs) (z ∷ []) texts.0 (texts.1.0, fb, tt);
       attrs = omega (arith, attr_count-append (x ∷ xs) (z ∷ []));

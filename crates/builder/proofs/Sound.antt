@@ -1,6 +1,7 @@
 -- What a sound state says, part by part.
-use Rattle.std.proofs.Common.{◌≡◌, ℕ, zero, suc, ◌+◌, ◌<◌, ◌≤◌, Bool, true, false, not, ◌||◌, eqb, ltb, leb, ◌⊎◌, length, get_or, Some, None, Option, refl, ap, ◌∙◌, inl, inr, arith, length-take-le, get_or-take}
-use Rattle.std.proofs.lemmas.Bool.{and_parts, and_from, or_cases, or_left, or_right, leb-true, le-leb, ltb-true, lt-ltb, eqb-true, eq-eqb, both_ways, cases_lt}
+use Rattle.std.proofs.Common.{◌≡◌, ℕ, zero, suc, ◌+◌, ◌<◌, ◌≤◌, Bool, true, false, not, ◌||◌, eqb, ltb, leb, length, get_or, Some, None, Option, refl, ap, ◌∙◌, arith, length-take-le, get_or-take}
+use Rattle.std.proofs.lemmas.Bool.Decides.{nat_tests}
+use Rattle.std.proofs.lemmas.Bool.{and_parts, and_from, leb-true, ltb-true, eqb-true, eq-eqb}
 use Rattle.table.specs.Table.{Table, node_at}
 use Rattle.table.specs.Checks.{each, is_parent_code, accepts}
 use Rattle.table.specs.Links.{depth_at, deepest}
@@ -21,18 +22,10 @@ abbrev pub Deeper : Table → ℕ → ℕ → Type 0
 Deeper t n p = (j : ℕ) → p < j → j < n → depth_at t p < depth_at t j
 
 deeper-is : (t : Table) (n p : ℕ) → deeper_after t n p ≡ true → Deeper t n p
-deeper-is t n p h j a b = go (or_cases (leb j p) _ (each_at (λ j. leb j p || ltb (depth_at t p) (depth_at t j)) n j b h))
-  where
-    go : (leb j p ≡ true) ⊎ (ltb (depth_at t p) (depth_at t j) ≡ true) → depth_at t p < depth_at t j
-    go (inl e) = absurd (let l = leb-true j p e in omega arith)
-    go (inr e) = ltb-true (depth_at t p) (depth_at t j) e
+deeper-is t n p h j a b = let e = each_at (λ j. leb j p || ltb (depth_at t p) (depth_at t j)) n j b h in grind (arith, nat_tests)
 
 is-deeper : (t : Table) (n p : ℕ) → Deeper t n p → deeper_after t n p ≡ true
-is-deeper t n p h = each_from (λ j. leb j p || ltb (depth_at t p) (depth_at t j)) n (λ j b. go j b (cases_lt p j))
-  where
-    go : (j : ℕ) → j < n → (p < j) ⊎ (j ≤ p) → (leb j p || ltb (depth_at t p) (depth_at t j)) ≡ true
-    go j b (inl a) = or_right (leb j p) _ (lt-ltb _ _ (h j a b))
-    go j b (inr a) = or_left (leb j p) _ (le-leb j p a)
+is-deeper t n p h = each_from (λ j. leb j p || ltb (depth_at t p) (depth_at t j)) n (λ j b. let d = h j in grind (arith, nat_tests, d))
 
 -- the last child of p
 abbrev pub Last : Table → ℕ → ℕ → Option ℕ → Type 0
@@ -42,14 +35,11 @@ Last t n p (Some q) = (p < q) × (q < n) × (depth_at t q ≡ depth_at t p + 1) 
 last-is : (t : Table) (n p : ℕ) (o : Option ℕ) → last_ok t n p o ≡ true → Last t n p o
 last-is t n p None h = eqb-true (p + 1) n h
 last-is t n p (Some q) h =
-    let a = and_parts (ltb p q) _ h in
-    let b = and_parts (ltb q n) _ a.1 in
-    let c = and_parts (eqb (depth_at t q) (depth_at t p + 1)) _ b.1 in
-    (ltb-true p q a.0, ltb-true q n b.0, eqb-true _ _ c.0, deeper-is t n q c.1)
+    let d = deeper-is t n q in grind (arith, nat_tests, d)
 
 is_last : (t : Table) (n p : ℕ) (o : Option ℕ) → Last t n p o → last_ok t n p o ≡ true
 is_last t n p None h = eq-eqb (p + 1) n h
-is_last t n p (Some q) h = and_from (ltb p q) _ (lt-ltb p q h.0) (and_from (ltb q n) _ (lt-ltb q n h.1) (and_from (eqb (depth_at t q) (depth_at t p + 1)) _ (eq-eqb _ _ h.2) (is-deeper t n q h.3)))
+is_last t n p (Some q) h = let d = is-deeper t n q h.3 in grind (arith, nat_tests)
 
 -- an element that was just given
 abbrev pub Fresh : Table → ℕ → Option ℕ → Bool → Type 0
@@ -59,7 +49,7 @@ Fresh t p o true = (o ≡ None) × ((node_at t p).kind ≡ 4)
 fresh-is : (t : Table) (p : ℕ) (o : Option ℕ) (f : Bool) → (not f || fresh_ok t p o) ≡ true → Fresh t p o f
 fresh-is t p o false h = tt
 fresh-is t p None true h = (refl, eqb-true _ _ h)
-fresh-is t p (Some q) true h = absurd (both_ways false refl h)
+fresh-is t p (Some q) true h = cc
 
 is-fresh : (t : Table) (p : ℕ) (o : Option ℕ) (f : Bool) → Fresh t p o f → (not f || fresh_ok t p o) ≡ true
 is-fresh t p o false h = refl
@@ -112,16 +102,10 @@ is-sound s h =
     let t = used_table s in
     let n = s.used.nodes in
     let p = s.current in
-    and_from (leb n (length s.nodes)) _ (le-leb _ _ h.nodes)
-    (and_from (leb s.used.attrs (length s.attrs)) _ (le-leb _ _ h.attrs)
-    (and_from (leb s.used.bytes (length s.bytes)) _ (le-leb _ _ h.bytes)
-    (and_from (accepts t) _ h.accepted
-    (and_from (all_linked (used_nodes s) t) _ h.linked
-    (and_from (eqb s.height (deepest t.nodes)) _ (eq-eqb _ _ h.height)
-    (and_from (ltb p n) _ (lt-ltb _ _ h.inside)
-    (and_from (is_parent_code (node_at t p).kind) _ h.parent
-    (and_from (deeper_after t n p) _ (is-deeper t n p h.under)
-    (and_from (last_ok t n p s.last) _ (is_last t n p s.last h.last) (is-fresh t p s.last s.fresh h.fresh))))))))))
+    let under = is-deeper t n p h.under in
+    let last = is_last t n p s.last h.last in
+    let fresh = is-fresh t p s.last s.fresh h.fresh in
+    grind (arith, nat_tests)
 
 -- the records that are used
 module _ (s : State) (h : Sound s) where

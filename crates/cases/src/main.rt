@@ -2,9 +2,7 @@
 // the file in hexadecimal, `HEX` or `HEX*COUNT`. Of a long answer the first line and the length are printed.
 #![tactic(auto)]
 
-ghost use Rattle.std.specs.Prelude.{◌≤◌, length};
-
-use anyhow::anyhow;
+use anyhow::{Context, anyhow};
 use render::outline;
 use std::alloc::Global;
 use std::io::{BufRead, BufReader, Write};
@@ -12,6 +10,7 @@ use std::io::{BufRead, BufReader, Write};
 // No file of the list is longer.
 const MOST: usize = 300_000;
 
+// The value of a hexadecimal digit, lower-case only, where the library's `to_digit` takes both.
 fn digit(b: u8) -> Option<u8> {
     match b {
         b'0'..=b'9' => Some(b - b'0'),
@@ -20,23 +19,20 @@ fn digit(b: u8) -> Option<u8> {
     }
 }
 
-// The bytes of a hexadecimal number.
+// The bytes of a hexadecimal number. A digit that is left over at its end is passed over.
 fn unhex(heap: Global, text: &str) -> anyhow::Result<Vec<u8>> {
-    let mut out = Vec::new(heap);
-    let mut high = None;
-    for b in text.bytes() {
-        let Some(d) = digit(b) else {
-            return Err(anyhow!("a piece is not hexadecimal"));
-        };
-        high = match high {
-            None => Some(d),
-            Some(h) => {
-                out.push(h << 4 | d)?;
-                None
-            }
-        };
-    }
-    Ok(out)
+    let digits = text
+        .bytes()
+        .map(digit)
+        .collect::<Option<Vec<u8>>>(heap)?
+        .context("a piece is not hexadecimal")?;
+    let (pairs, _) = digits.as_slice().as_chunks::<2>();
+    Ok(
+        pairs
+            .iter()
+            .map(|[high, low]| high << 4 | low)
+            .collect(heap)?,
+    )
 }
 
 // Appends a piece as often as it says.
@@ -55,16 +51,12 @@ fn add(heap: Global, file: &mut Vec<u8>, piece: &str) -> anyhow::Result<()> {
     Ok(())
 }
 
-// Where the first line ends.
-fn first_line(text: &[u8]) -> usize
-    ensures { result ≤ length text.now }
-{
-    for (i, b) in text.iter().enumerate() {
-        if *b == b'\n' {
-            return i + 1;
-        }
+// The first line of a text, with its end.
+fn first_line(text: &[u8]) -> &[u8] {
+    match text.iter().position(|b| *b == b'\n') {
+        Some(i) => &text[..=i],
+        None => text,
     }
-    text.len()
 }
 
 fn show(rt: &HostRuntime, name: &str, file: &[u8]) -> anyhow::Result<()> {
@@ -74,8 +66,7 @@ fn show(rt: &HostRuntime, name: &str, file: &[u8]) -> anyhow::Result<()> {
         rt.stdout().write_all(text.as_slice())?;
         return Ok(());
     }
-    rt.stdout()
-        .write_all(&text.as_slice()[0..first_line(text.as_slice())])?;
+    rt.stdout().write_all(first_line(text.as_slice()))?;
     let len = text.len();
     println!(rt; "({len} bytes)")?;
     Ok(())
@@ -84,9 +75,7 @@ fn show(rt: &HostRuntime, name: &str, file: &[u8]) -> anyhow::Result<()> {
 fn main(rt: HostRuntime) -> anyhow::Result<()> {
     for line in BufReader::new(rt.alloc(), rt.stdin())?.lines(rt.alloc()) {
         let line = line?;
-        let Some((name, pieces)) = line.split_once(':') else {
-            return Err(anyhow!("a line has no colon"));
-        };
+        let (name, pieces) = line.split_once(':').context("a line has no colon")?;
         let mut file = Vec::new(rt.alloc());
         for piece in pieces.split_whitespace() {
             add(rt.alloc(), &mut file, piece)?;

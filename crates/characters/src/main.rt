@@ -6,6 +6,7 @@ use std::io;
 use std::io::Read;
 use utf8::{count_chars, decode, well_formed};
 
+// The value of a hexadecimal digit, upper-case only, where the library's `to_digit` takes both.
 fn digit(b: u8) -> Option<u8> {
     match b {
         b'0'..=b'9' => Some(b - b'0'),
@@ -31,15 +32,14 @@ fn main(rt: HostRuntime) -> io::Result<()> {
     let mut input = Vec::new(rt.alloc());
     let _n = rt.stdin().read_to_end(&mut input)?;
     let mut bytes = Vec::new(rt.alloc());
+    // the first digit of a byte, which waits for the second over what stands between, the ends of lines too
     let mut high = None;
     for b in input.as_slice() {
-        match (digit(*b), high) {
+        match (digit(*b), high.take()) {
             (Some(d), None) => high = Some(d),
-            (Some(d), Some(h)) => {
-                bytes.push(h << 4 | d)?;
-                high = None;
-            }
-            (None, _) => {
+            (Some(d), Some(h)) => bytes.push(h << 4 | d)?,
+            (None, h) => {
+                high = h;
                 if *b == b'\n' {
                     show(&rt, bytes.as_slice())?;
                     bytes.clear();

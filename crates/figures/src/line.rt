@@ -2,7 +2,6 @@
 ghost use Rattle.std.specs.Prelude.{◌≡◌, true, ◌++◌, is_some, IfOk, string_bytes, codes, decimal, OnOk};
 ghost use Rattle.page.specs.Forest.{find, has as has_in, kids_of, part_of};
 ghost use Rattle.page.specs.declared.kind.Part.TheVariants.{Content};
-ghost use Rattle.render.specs.Render.{quoted};
 ghost use Rattle.text.specs.Held.{held};
 ghost use Rattle.dom.specs.Under.{under_of};
 ghost use Rattle.scorer.specs.Content.{score_by};
@@ -11,7 +10,7 @@ ghost use Rattle.figures.specs.Points.{lowered_name, numbered, figures_text, ele
 use dom::Under;
 use names::{lower, tag_of};
 use page::{NodeKind, Page, Part};
-use render::push_escaped;
+use render::push_quoted;
 use scorer::{content_score_by, get_class_weight, qualifies_by};
 use std::alloc::{AllocError, Global};
 use text::char_of;
@@ -28,18 +27,6 @@ fn name_text<P: Page>(heap: Global, p: &P, n: usize) -> Result<String, AllocErro
         at += w;
     }
     Ok(name)
-}
-
-// Bytes in quotes.
-fn push_quoted(out: &mut Vec<u8>, bytes: &[u8]) -> Result<(), AllocError>
-    ensures { OnOk result (out.new.items ≡ out.old.items ++ quoted bytes.now) }
-{
-    out.push(b'"')?;
-    for b in bytes {
-        push_escaped(out, *b)?;
-    }
-    out.push(b'"')?;
-    Ok(())
 }
 
 // The figures behind the name.
@@ -76,7 +63,7 @@ fn push_name<P: Page>(heap: Global, p: &P, n: usize, out: &mut Vec<u8>) -> Resul
     let number = number_text(heap, n)?;
     out.extend_from_slice(number.as_bytes())?;
     let name = name_text(heap, p, n)?;
-    push_quoted(out, name.as_bytes())?;
+    push_quoted(out, name.as_bytes().iter().copied())?;
     Ok(())
 }
 

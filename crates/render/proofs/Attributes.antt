@@ -13,5 +13,5 @@ attr-value none j l = absurd (omega arith)
 attr-value (node m k c a kids rest) j l = ap value_in (slice_get-get_or a j ([], []) l)
 
 pub attr-count : (f : Forest) (r : ℕ) → Some r ≡ count_of f → r ≡ length (attrs_of f)
-attr-count none r e = absurd (let z : ◌≡◌ {A = ℕ} 0 1 = cc in omega arith)
+attr-count none r e = cc
 attr-count (node m k c a kids rest) r e = cc

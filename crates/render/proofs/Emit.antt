@@ -1,5 +1,5 @@
 -- Appending piece by piece.
-use Rattle.std.proofs.Common.{◌≡◌, ℕ, zero, suc, ◌+◌, ◌<◌, ◌≤◌, List, [], ◌∷◌, ◌++◌, length, get_or, drop, Some, None, Option, sym, ap, ◌∙◌, append_assoc, append-nil, arith}
+use Rattle.std.proofs.Common.{◌≡◌, ℕ, zero, suc, ◌+◌, ◌<◌, ◌≤◌, List, [], ◌∷◌, ◌++◌, length, get_or, drop, Some, None, Option, sym, ap, ◌∙◌, append_assoc, append-nil}
 use Rattle.std.specs.List.{slice_get}
 use Rattle.std.proofs.lemmas.List.{drop_more, drop_all}
 use Rattle.page.specs.Forest.{length_in, byte_in}
@@ -7,16 +7,16 @@ use Rattle.render.specs.Found.{bytes_in}
 
 -- the length and the bytes of a part, as they were answered
 pub length-read : (o : Option (List ℕ)) (r : ℕ) → Some r ≡ length_in o → r ≡ length (bytes_in o)
-length-read None r e = absurd (let z : ◌≡◌ {A = ℕ} 0 1 = cc in omega arith)
+length-read None r e = cc
 length-read (Some xs) r e = cc
 
 nth_read : (xs : List ℕ) (i r : ℕ) → Some r ≡ slice_get xs i → r ≡ get_or xs i 0
-nth_read [] i r e = absurd (let z : ◌≡◌ {A = ℕ} 0 1 = cc in omega arith)
+nth_read [] i r e = cc
 nth_read (x ∷ xs) zero r e = cc
 nth_read (x ∷ xs) (suc i) r e = nth_read xs i r e
 
 pub byte-read : (o : Option (List ℕ)) (i r : ℕ) → Some r ≡ byte_in o i → r ≡ get_or (bytes_in o) i 0
-byte-read None i r e = absurd (let z : ◌≡◌ {A = ℕ} 0 1 = cc in omega arith)
+byte-read None i r e = cc
 byte-read (Some xs) i r e = nth_read xs i r e
 
 -- of what is written piece by piece, one piece more

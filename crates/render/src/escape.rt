@@ -1,7 +1,8 @@
 // Bytes in quotes.
-ghost use Rattle.std.specs.Prelude.{◌≡◌, ◌<◌, ◌++◌, is_ok, if◌then◌else◌};
+ghost use Rattle.std.specs.Prelude.{◌≡◌, ℕ, ◌<◌, List, ◌++◌, is_ok, OnOk, if◌then◌else◌};
 ghost use Rattle.std.specs.Char.{digit_char};
-ghost use Rattle.render.specs.Render.{escape};
+ghost use Rattle.std.specs.Iterator.{IsFinite, Drains};
+ghost use Rattle.render.specs.Render.{escape, quoted};
 
 use std::alloc::AllocError;
 
@@ -24,4 +25,21 @@ pub fn push_escaped(out: &mut Vec<u8>, b: u8) -> Result<(), AllocError>
         }
         _ => out.extend_from_slice(&[b]),
     }
+}
+
+// Appends bytes in quotes.
+pub fn push_quoted<I: Iterator<Item = u8> + Drop>(
+    out: &mut Vec<u8>,
+    bytes: I,
+) -> Result<(), AllocError>
+    requires can { I.can_next bytes }
+    requires ends { IsFinite (I.remaining bytes) }
+    ensures { OnOk result ((xs : List ℕ) × Drains I.next_gives bytes xs × (out.new.items ≡ out.old.items ++ quoted xs)) }
+{
+    out.push(b'"')?;
+    for b in bytes {
+        push_escaped(out, b)?;
+    }
+    out.push(b'"')?;
+    Ok(())
 }

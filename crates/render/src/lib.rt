@@ -8,5 +8,5 @@ mod lines;
 mod text;
 
 pub use answer::answer_input;
-pub use escape::push_escaped;
+pub use escape::{push_escaped, push_quoted};
 pub use text::{outline, refusal_text};

@@ -4,7 +4,7 @@ ghost use Rattle.page.specs.Forest.{attrs_of, part_of};
 ghost use Rattle.render.specs.Render.{quoted, word, attr_text, attrs_text};
 ghost use Rattle.render.specs.Found.{part_bytes, content_in, line_of};
 
-use crate::escape::push_escaped;
+use crate::escape::push_quoted;
 use page::{Node, NodeKind, Page, Part};
 use std::alloc::AllocError;
 
@@ -30,18 +30,14 @@ fn kind_word(kind: NodeKind) -> &'static [u8]
 }
 
 // A part in quotes.
-fn push_quoted<P: Page>(node: &Node<'_, P>, part: Part, out: &mut Vec<u8>) -> Result<(), AllocError>
+fn push_part<P: Page>(node: &Node<'_, P>, part: Part, out: &mut Vec<u8>) -> Result<(), AllocError>
     requires { is_some (part_of node.now part) ≡ true }
     ensures { OnOk result (out.new.items ≡ out.old.items ++ quoted (part_bytes node.now part)) }
 {
     let p = node.page();
     let n = node.number();
-    out.push(b'"')?;
-    for i in 0..p.len_of(n, part) {
-        push_escaped(out, p.byte_of(n, part, i))?;
-    }
-    out.push(b'"')?;
-    Ok(())
+    let bytes = (0..p.len_of(n, part)).map(|i| p.byte_of(n, part, i));
+    push_quoted(out, bytes)
 }
 
 // The content of all but the document: a space and the quoted bytes.
@@ -52,7 +48,7 @@ fn push_content<P: Page>(node: &Node<'_, P>, out: &mut Vec<u8>) -> Result<(), Al
         return Ok(());
     }
     out.push(b' ')?;
-    push_quoted(node, Part::Content, out)?;
+    push_part(node, Part::Content, out)?;
     Ok(())
 }
 
@@ -62,9 +58,9 @@ fn push_attr<P: Page>(node: &Node<'_, P>, j: usize, out: &mut Vec<u8>) -> Result
     ensures { OnOk result (out.new.items ≡ out.old.items ++ attr_text (slice_index_or (attrs_of node.now) j ([], []))) }
 {
     out.push(b' ')?;
-    push_quoted(node, Part::Name(j), out)?;
+    push_part(node, Part::Name(j), out)?;
     out.push(b'=')?;
-    push_quoted(node, Part::Value(j), out)?;
+    push_part(node, Part::Value(j), out)?;
     Ok(())
 }
 

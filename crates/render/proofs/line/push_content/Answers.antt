@@ -13,7 +13,7 @@ no-content none e = refl
 no-content (node m k c a kids rest) e = let z : k ≡ Document = cc in ap (λ j. content_text j c) z
 
 some-content : (f : Forest) (k : NodeKind) → Some k ≡ kind_of f → (k ≡ Document → ⊥) → content_in f ≡ 32 ∷ quoted (part_bytes f Content)
-some-content none k e h = absurd (let z : ◌≡◌ {A = ℕ} 0 1 = cc in omega arith)
+some-content none k e h = cc
 some-content (node m j c a kids rest) k e h = let z : j ≡ k = cc in go j (λ (y : j ≡ Document). h (sym z ∙ y))
   where
     go : (i : NodeKind) → (i ≡ Document → ⊥) → content_text i c ≡ 32 ∷ quoted c
@@ -27,8 +27,8 @@ content-there : (f : Forest) (k : NodeKind) → Some k ≡ kind_of f → is_some
 content-there none k e = absurd (let z : ◌≡◌ {A = ℕ} 0 1 = cc in omega arith)
 content-there (node m j c a kids rest) k e = refl
 
-pub push_quoted-requires : goal.push_quoted-requires
-push_quoted-requires g c = content-there c.args.node.now c.kind.result c.kind.ensures.kind
+pub push_part-requires : goal.push_part-requires
+push_part-requires g c = content-there c.args.node.now c.kind.result c.kind.ensures.kind
 
 pub returns-in-Document : goal.returns-in-Document
 returns-in-Document g c =
@@ -39,6 +39,6 @@ pub returns : goal.returns
 returns g c =
     let f = c.args.node.now in
     let E = vec_items c.args.out.now in
-    c.in_ok-push_quoted.ensures
+    c.in_ok-push_part.ensures
     ∙ (ap (λ l. l ++ quoted (part_bytes f Content)) c.in_ok-push.ensures.items
     ∙ (append_assoc E (32 ∷ []) (quoted (part_bytes f Content)) ∙ ap (λ l. E ++ l) (sym (some-content f c.kind.result c.kind.ensures.kind c.in_default.not-Document))))

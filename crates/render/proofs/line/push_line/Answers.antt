@@ -1,4 +1,4 @@
-use Rattle.std.proofs.Common.{◌≡◌, ℕ, ◌*◌, List, [], ◌∷◌, ◌++◌, replicate, Some, vec_items, ap, ◌∙◌, append_assoc, arith}
+use Rattle.std.proofs.Common.{◌≡◌, ℕ, ◌*◌, List, [], ◌∷◌, ◌++◌, replicate, Some, vec_items, ap, ◌∙◌, append_assoc}
 use Rattle.page.specs.declared.kind.NodeKind.{NodeKind}
 use Rattle.page.specs.Forest.{Forest, none, node, kind_of, attrs_of}
 use Rattle.render.specs.Render.{word, content_text, attrs_text}
@@ -8,7 +8,7 @@ use Rattle.render.proofs.line.push_line.Goals as goal
 -- the five pieces of a line
 pieces : (f : Forest) (k : NodeKind) (d : ℕ) (E : List ℕ) → Some k ≡ kind_of f
     → ((((E ++ replicate (2 * d) 32) ++ word k) ++ content_in f) ++ attrs_text (attrs_of f)) ++ (10 ∷ []) ≡ E ++ line_of d f
-pieces none k d E e = absurd (let z : ◌≡◌ {A = ℕ} 0 1 = cc in omega arith)
+pieces none k d E e = cc
 pieces (node m j c a kids rest) k d E e =
     let z : k ≡ j = cc in
     let I = replicate (2 * d) 32 in
