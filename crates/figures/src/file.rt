@@ -3,7 +3,6 @@ ghost use Rattle.std.specs.Prelude.{◌≡◌, IfOk};
 ghost use Rattle.page.specs.Forest.{Forest};
 ghost use Rattle.table.specs.Fits.{Fits};
 ghost use Rattle.pagefile.specs.Format.{encode};
-ghost use Rattle.render.specs.Outline.{refusal_text};
 ghost use Rattle.figures.specs.Points.{point_lines};
 ghost use Rattle.figures.specs.Answer.{points_of};
 
@@ -11,18 +10,8 @@ use crate::lines::push_points;
 use dom::{Under, fill_under};
 use page::Page;
 use pagefile::OpenedPage;
+use render::refusal_text;
 use std::alloc::{AllocError, Global};
-use table::Check;
-
-// The line of a refusal.
-fn refusal_text(heap: Global, check: Check) -> Result<Vec<u8>, AllocError>
-    ensures { IfOk result (λ v. v.items ≡ refusal_text check) }
-{
-    let number = check.number();
-    let record = check.record();
-    let text = format!(in heap; "refused {number} {record}\n")?;
-    text.as_bytes().to_vec(heap)
-}
 
 // The figures of every element of any page, a line each, in document order. It fails only for want of memory.
 pub fn page_points<P: Page>(heap: Global, p: &P) -> Result<Vec<u8>, AllocError>

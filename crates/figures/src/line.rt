@@ -1,6 +1,6 @@
 // The line of an element.
-ghost use Rattle.std.specs.Prelude.{◌≡◌, true, ◌++◌, is_some, IfOk, string_bytes, codes, decimal, OnOk};
-ghost use Rattle.page.specs.Forest.{find, has as has_in, kids_of, part_of};
+ghost use Rattle.std.specs.Prelude.{◌≡◌, true, ◌++◌, IfOk, string_bytes, codes, decimal, OnOk};
+ghost use Rattle.page.specs.Forest.{find, has as has_in, kids_of};
 ghost use Rattle.page.specs.declared.kind.Part.TheVariants.{Content};
 ghost use Rattle.render.specs.Render.{quoted};
 ghost use Rattle.text.specs.Held.{held};
@@ -14,23 +14,19 @@ use page::{NodeKind, Page, Part};
 use render::push_escaped;
 use scorer::{content_score_by, get_class_weight, qualifies_by};
 use std::alloc::{AllocError, Global};
-use text::char_of;
+use text::PartOf;
 
 // The name of an element, lowered.
 fn name_text<P: Page>(heap: Global, p: &P, n: usize) -> Result<String, AllocError>
-    requires { is_some (part_of (find (P.tree p.now) n) Content) ≡ true }
     ensures { IfOk result (λ s. string_bytes s ≡ lowered_name (held (P.tree p.now) n Content)) }
 {
-    let mut name = String::new(heap);
-    let mut at = 0;
-    while let Some((c, w)) = char_of(p, n, Part::Content, at) {
-        name.push(lower(c))?;
-        at += w;
-    }
-    Ok(name)
+    PartOf::new(p, n, Part::Content)
+        .chars()
+        .map(|c| lower(c))
+        .collect(heap)
 }
 
-// Bytes in quotes.
+// Bytes in quotes. `render` has the same for a part of a page, which it reads byte by byte.
 fn push_quoted(out: &mut Vec<u8>, bytes: &[u8]) -> Result<(), AllocError>
     ensures { OnOk result (out.new.items ≡ out.old.items ++ quoted bytes.now) }
 {
@@ -70,7 +66,6 @@ fn number_text(heap: Global, n: usize) -> Result<String, AllocError>
 
 // The number and the quoted name.
 fn push_name<P: Page>(heap: Global, p: &P, n: usize, out: &mut Vec<u8>) -> Result<(), AllocError>
-    requires { is_some (part_of (find (P.tree p.now) n) Content) ≡ true }
     ensures { OnOk result (out.new.items ≡ out.old.items ++ numbered n (held (P.tree p.now) n Content)) }
 {
     let number = number_text(heap, n)?;
