@@ -9,7 +9,8 @@ use dom::Under;
 use page::Page;
 use std::alloc::{AllocError, Global};
 
-// The lines of what stands under the node n, by a table of the figures of every node. It calls itself once a level.
+// The lines of what stands under the node n, by a table of the figures of every node. It calls itself once a level. Only
+// these two functions share the table and what is known of it, so no struct holds them.
 fn push_under<P: Page>(
     heap: Global,
     p: &P,
