@@ -1,6 +1,6 @@
 // The line of an element.
-ghost use Rattle.std.specs.Prelude.{◌≡◌, true, ◌++◌, is_some, IfOk, string_bytes, codes, decimal, OnOk};
-ghost use Rattle.page.specs.Forest.{find, has as has_in, kids_of, part_of};
+ghost use Rattle.std.specs.Prelude.{◌≡◌, ◌++◌, IfOk, string_bytes, codes, decimal, OnOk};
+ghost use Rattle.page.specs.Forest.{kids_of};
 ghost use Rattle.page.specs.declared.kind.Part.TheVariants.{Content};
 ghost use Rattle.text.specs.Held.{held};
 ghost use Rattle.dom.specs.Under.{under_of};
@@ -9,24 +9,20 @@ ghost use Rattle.figures.specs.Points.{lowered_name, numbered, figures_text, ele
 
 use dom::Under;
 use names::{lower, tag_of};
-use page::{NodeKind, Page, Part};
+use page::{Node, NodeKind, Page, Part};
 use render::push_quoted;
 use scorer::{content_score_by, get_class_weight, qualifies_by};
 use std::alloc::{AllocError, Global};
-use text::char_of;
+use text::PartOf;
 
 // The name of an element, lowered.
 fn name_text<P: Page>(heap: Global, p: &P, n: usize) -> Result<String, AllocError>
-    requires { is_some (part_of (find (P.tree p.now) n) Content) ≡ true }
     ensures { IfOk result (λ s. string_bytes s ≡ lowered_name (held (P.tree p.now) n Content)) }
 {
-    let mut name = String::new(heap);
-    let mut at = 0;
-    while let Some((c, w)) = char_of(p, n, Part::Content, at) {
-        name.push(lower(c))?;
-        at += w;
-    }
-    Ok(name)
+    PartOf::new(p, n, Part::Content)
+        .chars()
+        .map(|c| lower(c))
+        .collect(heap)
 }
 
 // The figures behind the name.
@@ -57,7 +53,6 @@ fn number_text(heap: Global, n: usize) -> Result<String, AllocError>
 
 // The number and the quoted name.
 fn push_name<P: Page>(heap: Global, p: &P, n: usize, out: &mut Vec<u8>) -> Result<(), AllocError>
-    requires { is_some (part_of (find (P.tree p.now) n) Content) ≡ true }
     ensures { OnOk result (out.new.items ≡ out.old.items ++ numbered n (held (P.tree p.now) n Content)) }
 {
     let number = number_text(heap, n)?;
@@ -67,21 +62,21 @@ fn push_name<P: Page>(heap: Global, p: &P, n: usize, out: &mut Vec<u8>) -> Resul
     Ok(())
 }
 
-// The line of n, if it is an element, by the figures of what is under it.
+// The line of a node, if it is an element, by the figures of what is under it.
 pub(crate) fn push_line<P: Page>(
     heap: Global,
-    p: &P,
-    n: usize,
+    node: &Node<'_, P>,
     under: &Under,
     out: &mut Vec<u8>,
 ) -> Result<(), AllocError>
-    requires there { has_in (P.tree p.now) n ≡ true }
-    requires figures { under.now ≡ under_of (kids_of (find (P.tree p.now) n)) }
-    ensures { OnOk result (out.new.items ≡ out.old.items ++ element_line (find (P.tree p.now) n)) }
+    requires { under.now ≡ under_of (kids_of node.now) }
+    ensures { OnOk result (out.new.items ≡ out.old.items ++ element_line node.now) }
 {
-    let NodeKind::Element = p.kind_of(n) else {
+    let NodeKind::Element = node.kind() else {
         return Ok(());
     };
+    let p = node.page();
+    let n = node.number();
     push_name(heap, p, n, out)?;
     let weight = get_class_weight(p, n);
     let text = figures_text(heap, under, weight, qualifies_by(tag_of(p, n), under))?;

@@ -4,7 +4,7 @@ use Rattle.std.specs.List.{ContainsAt as Has}
 use Rattle.std.specs.List.{slice_get, range_with_len, zip, list_any, list_all}
 use Rattle.std.proofs.lemmas.List.{drop_more, drop_all}
 use Rattle.std.proofs.lemmas.Option.{slice_get-get_or}
-use Rattle.std.proofs.lemmas.Bool.{eq-eqb, eqb-true, and_parts, and_from, both_ways, or_left, or_right, or_cases}
+use Rattle.std.proofs.lemmas.Bool.{cases_lt, eq-eqb, ne_eqb, eqb-true, and_parts, and_from, and_left, both_ways, or_left, or_right, or_cases}
 use Rattle.names.specs.Words.{begins, some_begins, has_word, SomeWord}
 
 pub begins-short : (w v : List ℕ) → length v < length w → begins w v ≡ false
@@ -29,6 +29,18 @@ begins-zip (c ∷ w) v at (suc n) e h =
     let inside : at < length v = omega arith in
     let here : is_at v (at, c) ≡ eqb c (get_or v at 0) = ap (λ o. elim o [ None ↦ false | Some x ↦ eqb c x ]) (slice_get-get_or v at 0 inside) in
     (λ i. here i && begins-zip w v (at + 1) n (omega arith) (omega arith) i) ∙ ap (begins (c ∷ w)) (sym (drop_more v at 0 inside))
+
+-- where a word begins a value at a place, it is empty or its first byte stands there
+pub stands-first : (w v : List ℕ) (at : ℕ) (r : Bool) → (0 < length w → slice_get v at ≡ Some (get_or w 0 0) → r ≡ true) → (length w ≡ 0 → r ≡ true) → (r && begins w (drop at v)) ≡ begins w (drop at v)
+stands-first [] v at r f g = ap (λ b. b && true) (g refl)
+stands-first (c ∷ w) v at true f g = refl
+stands-first (c ∷ w) v at false f g = go (cases_lt at (length v))
+  where
+    go : (at < length v) ⊎ (length v ≤ at) → false ≡ begins (c ∷ w) (drop at v)
+    go (inl l) =
+        let e = slice_get-get_or v at 0 l in
+        sym (ap (begins (c ∷ w)) (drop_more v at 0 l) ∙ and_left _ _ (ne_eqb c (get_or v at 0) (λ k. both_ways false refl (f (omega arith) (e ∙ ap Some (sym k))))))
+    go (inr l) = sym (ap (begins (c ∷ w)) (drop_all at v l))
 
 -- a search of the words
 pub some-any : (ws : List (Bor (List ℕ))) (v : List ℕ) → list_any (λ w. begins w.now v) ws ≡ some_begins (map (λ x. x.now) ws) v

@@ -2,7 +2,7 @@
 use Rattle.std.proofs.Common.{◌≡◌, ℕ, ◌+◌, ◌≤◌, max, suc, Bool, true, false, cond, eqb, List, [], ◌∷◌, Some, None, is_some, length, refl, sym, ap, ◌∙◌, arith}
 use Rattle.page.specs.declared.kind.NodeKind.{NodeKind}
 use Rattle.page.specs.Forest.{Forest, none, node, or_else, find, head_of, kids_of, rest_of, attrs_of, count_of, size, levels, trees, tree_or_none}
-use Rattle.page.specs.Kept.{Kept, KeptNode, WellFormed, Plain}
+use Rattle.page.specs.Kept.{Kept, KeptNode, Below, WellFormed, Plain}
 use Rattle.page.proofs.Find.{unique-find}
 use Rattle.page.proofs.Walk.{texts-find}
 use Rattle.page.proofs.Parent.{size-find}
@@ -35,9 +35,14 @@ levels-find (node i k c a kids rest) n = go (eqb i n) (levels-find kids n) (leve
     go true x y = omega arith
     go false x y = omega (arith, or_else-levels (find kids n) (find rest n))
 
+below-more : (b e : ℕ) (t : Forest) → b ≤ e → Below b t → Below e t
+below-more b e none l h = tt
+below-more b e (node m k c a kids rest) l h = (omega (arith, h.0), below-more b e kids l h.1, below-more b e rest l h.2)
+
 pub kept_node : (b : ℕ) (t : Forest) (n : ℕ) → Kept b t → KeptNode (find t n)
 kept_node b t n k = record {
   unique = unique-find t n k.unique;
+  below = find-keeps (Below 8192) (λ m j c a kids rest x. x.1) (λ m j c a kids rest x. x.2) tt t n (below-more b 8192 t k.few k.below);
   few = omega (arith, size-find t n, size_below b t k.unique k.below, k.few);
   flat = omega (arith, levels-find t n, k.flat);
   short = omega (arith, texts-find t n, k.short);

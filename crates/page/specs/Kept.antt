@@ -51,6 +51,7 @@ pub record Kept (bound : ℕ) (t : Forest) : Type 0 where
 -- and of each node, with what stands under it and behind it
 pub record KeptNode (t : Forest) : Type 0 where
   pub unique : Unique t
+  pub below : Below 8192 t
   pub few : size t ≤ 8192
   pub flat : levels t ≤ 64
   pub short : texts t ≤ 131072

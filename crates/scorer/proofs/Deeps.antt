@@ -48,7 +48,7 @@ formed-find (node i k c a kids rest) n w = go (eqb i n) (formed-find kids n w.2)
     go true x y = w
     go false x y = or_else-formed (find kids n) (find rest n) x y
 
-formed-kids : (f : Forest) → WellFormed f → WellFormed (kids_of f)
+pub formed-kids : (f : Forest) → WellFormed f → WellFormed (kids_of f)
 formed-kids none w = w
 formed-kids (node i k c a kids rest) w = w.2
 
@@ -56,7 +56,7 @@ text-formed : (f : Forest) → WellFormed f → well_formed (deep f) ≡ true
 text-formed none w = refl
 text-formed (node i k c a kids rest) w = formed-append (text_of k c) (deep kids ++ deep rest) (own-formed k c w.0) (formed-append (deep kids) (deep rest) (text-formed kids w.2) (text-formed rest w.3))
 
-deep-formed : (f : Forest) → WellFormed f → deep_chars f ≡ scalars_of (deep f)
+pub deep-formed : (f : Forest) → WellFormed f → deep_chars f ≡ scalars_of (deep f)
 deep-formed none w = refl
 deep-formed (node i k c a kids rest) w =
     (λ i. scalars_of (text_of k c) ++ (deep-formed kids w.2 i ++ deep-formed rest w.3 i))

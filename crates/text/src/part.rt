@@ -31,6 +31,22 @@ impl<'p, P: Page> Model for PartOf<'p, P> {
     ghost invariant = { λ s. s.len ≡ length (held (P.tree s.page.now) s.node s.part) };
 }
 
+// The byte of a part that stands k behind the place.
+fn byte_behind<P: Page>(page: &P, node: usize, part: Part, at: usize, k: usize) -> u8
+    ensures { at + k < 2 ^ 64 → at + k < length (held (P.tree page.now) node part) → result ≡ slice_index (held (P.tree page.now) node part) (at + k) }
+{
+    page.byte_of(node, part, at.saturating_add(k))
+}
+
+// The next four bytes of a part, with any behind its last. It takes no `&PartOf`, so that the fields of one can stay in
+// registers while its characters are read.
+#[inline]
+fn next_bytes<P: Page>(page: &P, node: usize, part: Part, at: usize) -> [u8; 4]
+    ensures { (k : ℕ) → k < 4 → at + k < 2 ^ 64 → at + k < length (held (P.tree page.now) node part) → slice_index result k ≡ slice_index (held (P.tree page.now) node part) (at + k) }
+{
+    from_fn(|k| byte_behind(page, node, part, at, k))
+}
+
 impl<'p, P: Page> PartOf<'p, P> {
     pub fn new(page: &'p P, node: usize, part: Part) -> PartOf<'p, P>
         ensures { result ≡ held (P.tree page.now) node part }
@@ -50,6 +66,7 @@ impl<'p, P: Page> PartOf<'p, P> {
     }
 
     // The byte at the place.
+    #[inline(always)]
     pub fn get(&self, at: usize) -> Option<u8>
         ensures { result ≡ slice_get self.now at }
     {
@@ -60,21 +77,8 @@ impl<'p, P: Page> PartOf<'p, P> {
         }
     }
 
-    // The byte at the place, and zero where there is none.
-    fn byte_or_zero(&self, at: usize) -> u8
-        ensures { result ≡ slice_index self.now at }
-    {
-        self.get(at).unwrap_or(0)
-    }
-
-    // The next four bytes, with zeros behind the last.
-    fn next_bytes(&self, at: usize) -> [u8; 4]
-        ensures { (k : ℕ) → k < 4 → at + k < 2 ^ 64 → slice_index result k ≡ slice_index self.now (at + k) }
-    {
-        from_fn(|k| self.byte_or_zero(at.saturating_add(k)))
-    }
-
     // The character that begins at the place, with how many bytes it takes.
+    #[inline(always)]
     pub fn char_at(&self, at: usize) -> Option<(char, usize)>
         ensures inside { IfSome result (λ x. (0 < x.1) × (at + x.1 ≤ length self.now) × (at + x.1 < 2 ^ 64)) }
         ensures value { result ≡ decoded (drop at self.now) }
@@ -84,10 +88,11 @@ impl<'p, P: Page> PartOf<'p, P> {
         if lead < 0x80 {
             return Some((char::from(lead), 1));
         }
-        decode(&self.next_bytes(at)[..left.min(4)])
+        decode(&next_bytes(self.page, self.node, self.part, at)[..left.min(4)])
     }
 
     // Feeds the machine the characters of the part.
+    #[inline]
     pub fn feed<M: Machine>(&self, m: &mut M)
         ensures fed { m.new ≡ run M.Machine.step m.old (scalars_of self.now) }
         ensures fits { length self.now < 2 ^ 64 }
@@ -130,6 +135,7 @@ impl<'a, 'p, P: Page> Iterator for Chars<'a, 'p, P> {
 
     ghost remaining = { item_count (λ s. s) };
 
+    #[inline(always)]
     fn next(&mut self) -> Option<char> {
         let (c, w) = self.bytes.char_at(self.at)?;
         self.at += w;

@@ -1,80 +1,70 @@
 -- A turn writes the lines of one child, with all under it.
-use Rattle.std.proofs.Common.{◌<◌, ◌++◌, vec_items, sym, ap, ◌∙◌, append_assoc, append-nil, arith}
-use Rattle.page.specs.Forest.{find, head_of, size, kids_of, rest_of, from}
-use Rattle.page.proofs.Walk.{from-kids, from-rest, from_some, from-has, size-parts}
-use Rattle.page.proofs.Parent.{below-has}
+use Rattle.std.proofs.Common.{◌≡◌, ◌<◌, ◌++◌, vec_items, sym, ap, ◌∙◌, subst, append_assoc, append-nil, arith}
+use Rattle.page.specs.Forest.{size, kids_of, rest_of}
+use Rattle.page.specs.Kept.{Below}
+use Rattle.page.proofs.Nodes.{taken, all_taken}
 use Rattle.figures.specs.Points.{element_line, point_lines}
+use Rattle.figures.specs.Listed.{Listed}
 use Rattle.figures.proofs.Elements.{line-parts}
+use Rattle.figures.proofs.Lists.{first, first_below, below-kids}
 use Rattle.figures.proofs.lines.+push_under.Goals as goal
 
-pub loop-at-init : goal.loop-at-init
-loop-at-init g t c =
-    let p = c.args.p.now in
-    let first = c.first_child_of-at.ensures c.requires.there in
-    let e = from-kids (g.P.Page.tree p) (g.P.Page.kept p).unique c.args.n c.first_child_of-at.result first in
-    (ap head_of e ∙ sym first, ap (λ f. vec_items c.args.out.now ++ point_lines f) e, omega (arith, ap size e))
+pub loop-child-init : goal.loop-child-init
+loop-child-init g t c =
+    let e : c.into_iter-child-iterator.result ≡ kids_of c.args.node.now = c.into_iter-child-iterator.ensures.into_iter_gives ∙ c.children-child-items.ensures.children in
+    record {
+      left = ap (λ f. vec_items c.args.out.now ++ point_lines f) e;
+      fewer = omega (arith, ap size e);
+      below = subst (Below 8192) (sym e) (below-kids 8192 c.args.node.now c.children-child-items.ensures.kept.below);
+      listed = subst (Listed c.args.table.now) (sym e) c.requires;
+    }
 
-pub offset_bounds-table-c : goal.offset_bounds-table-c
-offset_bounds-table-c g t c =
-    let p = c.args.p.now in
-    let T = g.P.Page.tree p in
-    let k = g.P.Page.kept p in
-    omega (arith, below-has (g.P.Page.limit p) T c.in-Some.c k.below (from-has T c.loop-at.at c.in-Some.c c.loop-at.invariant.0 c.in-Some.is), k.few)
+pub offset_bounds-table-number : goal.offset_bounds-table-number
+offset_bounds-table-number g t c =
+    let s = taken c.loop-child.child-iterator c.in-Some.child c.next.new.self c.in-Some.ensures.steps in
+    omega (arith, (first_below 8192 c.in-Some.child c.number.result (sym c.number.ensures) (subst (Below 8192) s.is c.loop-child.invariant.below)).0)
 
-pub bounds-table-c : goal.bounds-table-c
-bounds-table-c g t c =
-    let p = c.args.p.now in
-    let T = g.P.Page.tree p in
-    omega (arith, below-has (g.P.Page.limit p) T c.in-Some.c (g.P.Page.kept p).below (from-has T c.loop-at.at c.in-Some.c c.loop-at.invariant.0 c.in-Some.is), c.requires.long)
+pub bounds-table-number : goal.bounds-table-number
+bounds-table-number g t c =
+    let s = taken c.loop-child.child-iterator c.in-Some.child c.next.new.self c.in-Some.ensures.steps in
+    (first c.args.table.now c.in-Some.child c.number.result (sym c.number.ensures) (subst (Listed c.args.table.now) s.is c.loop-child.invariant.listed)).inside
 
 pub push_line-requires : goal.push_line-requires
 push_line-requires g t c =
-    let p = c.args.p.now in
-    let T = g.P.Page.tree p in
-    let there = from-has T c.loop-at.at c.in-Some.c c.loop-at.invariant.0 c.in-Some.is in
-    record { there = there; figures = c.requires.measured c.in-Some.c _ there (omega (arith, below-has (g.P.Page.limit p) T c.in-Some.c (g.P.Page.kept p).below there, c.requires.long)) }
+    let s = taken c.loop-child.child-iterator c.in-Some.child c.next.new.self c.in-Some.ensures.steps in
+    (first c.args.table.now c.in-Some.child c.number.result (sym c.number.ensures) (subst (Listed c.args.table.now) s.is c.loop-child.invariant.listed)).figures _
 
 pub push_under-requires : goal.push_under-requires
 push_under-requires g t c κs within =
-    let T = g.P.Page.tree c.args.p.now in
-    let f = find T c.in-Some.c in
-    let s = from_some T c.loop-at.at c.in-Some.c c.loop-at.invariant.0 c.in-Some.is in
-    let less : size (kids_of f) < t = omega (arith, c.decreases, ap size s.0, size-parts f c.in-Some.c s.1, c.loop-at.invariant.2) in
-    (less, (within, (from-has T c.loop-at.at c.in-Some.c c.loop-at.invariant.0 c.in-Some.is, (c.requires.long, c.requires.measured))))
+    let s = taken c.loop-child.child-iterator c.in-Some.child c.next.new.self c.in-Some.ensures.steps in
+    let less : size (kids_of c.in-Some.child) < t = omega (arith, c.decreases, s.size, c.loop-child.invariant.fewer) in
+    let one = first c.args.table.now c.in-Some.child c.number.result (sym c.number.ensures) (subst (Listed c.args.table.now) s.is c.loop-child.invariant.listed) in
+    (less, (within, one.kids))
 
-pub loop-at-smaller : goal.loop-at-smaller
-loop-at-smaller g t c =
-    let p = c.args.p.now in
-    let T = g.P.Page.tree p in
-    let f = find T c.in-Some.c in
-    let s = from_some T c.loop-at.at c.in-Some.c c.loop-at.invariant.0 c.in-Some.is in
-    let e = from-rest T (g.P.Page.kept p).unique c.in-Some.c c.next_sibling_of-at.result (c.next_sibling_of-at.ensures (from-has T c.loop-at.at c.in-Some.c c.loop-at.invariant.0 c.in-Some.is)) in
-    omega (arith, ap size s.0, size-parts f c.in-Some.c s.1, ap size e)
-
-pub loop-at-preserved : goal.loop-at-preserved
-loop-at-preserved g t c =
-    let p = c.args.p.now in
-    let T = g.P.Page.tree p in
-    let f = find T c.in-Some.c in
-    let O = vec_items c.loop-at.out in
-    let s = from_some T c.loop-at.at c.in-Some.c c.loop-at.invariant.0 c.in-Some.is in
-    let next = c.next_sibling_of-at.ensures (from-has T c.loop-at.at c.in-Some.c c.loop-at.invariant.0 c.in-Some.is) in
-    let e = from-rest T (g.P.Page.kept p).unique c.in-Some.c c.next_sibling_of-at.result next in
+pub loop-child-preserved : goal.loop-child-preserved
+loop-child-preserved g t c =
+    let f = c.in-Some.child in
+    let O = vec_items c.loop-child.out in
+    let s = taken c.loop-child.child-iterator f c.next.new.self c.in-Some.ensures.steps in
+    let n = c.number.result in
+    let head = sym c.number.ensures in
     let one = c.in_ok-push_line.ensures in
     let two = c.in_ok-push_under.ensures in
     let L = element_line f in
     let K = point_lines (kids_of f) in
-    let R = point_lines (rest_of f) in (
-      ap head_of e ∙ sym next,
-      (λ q. two q ++ point_lines (e q))
+    let R = point_lines (rest_of f) in
+    record {
+      left =
+          (let back = sym s.rest in λ q. two q ++ point_lines (back q))
           ∙ (ap (λ l. (l ++ K) ++ R) one
           ∙ (append_assoc (O ++ L) K R
-          ∙ (append_assoc O L (K ++ R) ∙ (ap (λ l. O ++ l) (sym (line-parts f) ∙ ap point_lines (sym s.0)) ∙ c.loop-at.invariant.1)))),
-      omega (arith, ap size s.0, size-parts f c.in-Some.c s.1, ap size e, c.loop-at.invariant.2),
-    )
+          ∙ (append_assoc O L (K ++ R) ∙ (ap (λ l. O ++ l) (sym (line-parts f) ∙ ap point_lines (sym s.is)) ∙ c.loop-child.invariant.left))));
+      fewer = omega (arith, s.size, c.loop-child.invariant.fewer);
+      below = subst (Below 8192) s.rest (first_below 8192 f n head (subst (Below 8192) s.is c.loop-child.invariant.below)).1;
+      listed = subst (Listed c.args.table.now) s.rest (first c.args.table.now f n head (subst (Listed c.args.table.now) s.is c.loop-child.invariant.listed)).rest;
+    }
 
 pub returns : goal.returns
 returns g t c =
-    let T = g.P.Page.tree c.args.p.now in
-    let O = vec_items c.loop-at.out in
-    sym (append-nil O) ∙ (ap (λ r. O ++ point_lines (from T r)) (sym c.in_default.is) ∙ c.loop-at.invariant.1)
+    let O = vec_items c.loop-child.out in
+    sym (append-nil O) ∙ (ap (λ f. O ++ point_lines f) (sym (all_taken c.loop-child.child-iterator c.in-None.ensures.steps.0)) ∙ c.loop-child.invariant.left)

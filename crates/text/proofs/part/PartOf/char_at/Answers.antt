@@ -1,5 +1,5 @@
 -- The first byte decides below 0x80; else the next four do.
-use Rattle.std.proofs.Common.{◌+◌, ◌^◌, ◌<◌, ◌≤◌, length, IfSome, Some, sym, ap, ◌∙◌, subst, arith, rules}
+use Rattle.std.proofs.Common.{◌+◌, ◌^◌, ◌<◌, ◌≤◌, length, get_or, IfSome, Some, sym, ap, ◌∙◌, subst, arith, rules}
 use Rattle.std.proofs.lemmas.Option.{slice_get_within}
 use Rattle.text.proofs.Reading.{nothing-past, first-small, first-bytes, ends}
 use Rattle.text.proofs.part.PartOf.char_at.Goals as goal
@@ -22,5 +22,6 @@ returns g c =
     let xs = c.args.self.now in
     let at = c.args.at in
     let within = slice_get_within xs at c.in_ok-lead.lead (sym c.get.ensures ∙ c.in_ok-lead.was) in
-    let e = c.decode.ensures.table ∙ first-bytes xs c.next_bytes.result at c.min.result (search rules) (omega arith) (λ k h i. c.next_bytes.ensures k h (omega arith)) in
+    let is = c.self.view_is in
+    let e = c.decode.ensures.table ∙ first-bytes xs c.next_bytes.result at c.min.result (search rules) (omega arith) (λ k h i. c.next_bytes.ensures k h (omega arith) (omega (arith, ap length is)) ∙ ap (λ l. get_or l (at + k) 0) is) in
     record { inside = subst (λ o. IfSome o (λ x. (0 < x.1) × (at + x.1 ≤ length xs) × (at + x.1 < 2 ^ 64))) (sym e) (ends xs at within (omega arith)); value = e }
