@@ -31,5 +31,5 @@ returns g c =
       (c.next.new.self, (c.loop-b.b-iterator, taken, c.in-None.ensures.steps)),
       c.in_ok-push-2.ensures.items
           ∙ (ap (λ v. v ++ (34 ∷ [])) (c.loop-b.invariant.written ∙ ap (λ v. v ++ escaped xs) c.in_ok-push.ensures.items)
-          ∙ (ap (λ v. v ++ (34 ∷ [])) (append_assoc E (34 ∷ []) (escaped xs)) ∙ append_assoc E (34 ∷ escaped xs) (34 ∷ []))),
+          ∙ simp append_assoc),
     )

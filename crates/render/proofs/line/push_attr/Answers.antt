@@ -13,9 +13,7 @@ push_part-requires-2 g c = ap is_some (attr-value c.args.node.now c.args.j c.req
 
 -- the four pieces of an attribute
 pieces : (E n v : List ℕ) → (((E ++ (32 ∷ [])) ++ quoted n) ++ (61 ∷ [])) ++ quoted v ≡ E ++ attr_text (n, v)
-pieces E n v =
-    append_assoc ((E ++ (32 ∷ [])) ++ quoted n) (61 ∷ []) (quoted v)
-    ∙ (append_assoc (E ++ (32 ∷ [])) (quoted n) (61 ∷ quoted v) ∙ append_assoc E (32 ∷ []) (quoted n ++ (61 ∷ quoted v)))
+pieces E n v = simp append_assoc
 
 pub returns : goal.returns
 returns g c =

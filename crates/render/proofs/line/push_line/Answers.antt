@@ -1,7 +1,7 @@
 use Rattle.std.proofs.Common.{◌≡◌, ℕ, ◌*◌, List, [], ◌∷◌, ◌++◌, replicate, Some, vec_items, ap, ◌∙◌, append_assoc}
 use Rattle.page.specs.declared.kind.NodeKind.{NodeKind}
 use Rattle.page.specs.Forest.{Forest, none, node, kind_of, attrs_of}
-use Rattle.render.specs.Render.{word, content_text, attrs_text}
+use Rattle.render.specs.Render.{word, attrs_text}
 use Rattle.render.specs.Found.{content_in, line_of}
 use Rattle.render.proofs.line.push_line.Goals as goal
 
@@ -11,14 +11,7 @@ pieces : (f : Forest) (k : NodeKind) (d : ℕ) (E : List ℕ) → Some k ≡ kin
 pieces none k d E e = cc
 pieces (node m j c a kids rest) k d E e =
     let z : k ≡ j = cc in
-    let I = replicate (2 * d) 32 in
-    let W = word j in
-    let C = content_text j c in
-    let A = attrs_text a in
-    ap (λ i. ((((E ++ I) ++ word i) ++ C) ++ A) ++ (10 ∷ [])) z
-    ∙ (append_assoc (((E ++ I) ++ W) ++ C) A (10 ∷ [])
-    ∙ (append_assoc ((E ++ I) ++ W) C (A ++ (10 ∷ []))
-    ∙ (append_assoc (E ++ I) W (C ++ (A ++ (10 ∷ []))) ∙ append_assoc E I (W ++ (C ++ (A ++ (10 ∷ [])))))))
+    rw z (simp append_assoc)
 
 pub returns : goal.returns
 returns g c =
