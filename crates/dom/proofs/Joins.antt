@@ -1,5 +1,6 @@
 -- Figures join: one forest after another, and a node over what is under it.
-use Rattle.std.proofs.Common.{◌≡◌, ℕ, ◌+◌, Bool, true, false, cond, ◌||◌, leb, List, [], ◌∷◌, ◌++◌, length, Some, sym, refl, ap, ◌∙◌, arith}
+use Rattle.std.proofs.Common.{◌≡◌, ℕ, ◌+◌, cond, ◌||◌, leb, List, [], ◌∷◌, ◌++◌, length, Some, sym, refl, ap, ◌∙◌, arith}
+use Rattle.std.proofs.Math.Bool.{or_assoc, or-false}
 use Rattle.std.proofs.lemmas.List.{length-append}
 use Rattle.utf8.specs.Decode.{scalars_of}
 use Rattle.page.specs.declared.kind.NodeKind.{NodeKind}
@@ -82,14 +83,6 @@ none_both : (p : Passes) → both (passes_of []) p ≡ p
 none_both p = same-passes _ _ (same-pass _ _ refl (omega arith)) (same-pass _ _ refl (omega arith)) (same-pass _ _ refl (omega arith))
 
 -- laws of figures
-or_assoc : (x y z : Bool) → ((x || y) || z) ≡ (x || (y || z))
-or_assoc true y z = refl
-or_assoc false y z = refl
-
-or-false : (x : Bool) → (x || false) ≡ x
-or-false true = refl
-or-false false = refl
-
 pub record Alike (u v : Under) : Type 0 where
   pub text : u.text ≡ v.text
   pub links : u.links ≡ v.links

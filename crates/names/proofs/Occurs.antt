@@ -2,6 +2,7 @@
 use Rattle.std.proofs.Common.{◌≡◌, ℕ, zero, suc, ◌+◌, ◌-◌, ◌<◌, ◌≤◌, Bool, true, false, ◌&&◌, ◌||◌, eqb, ◌⊎◌, List, [], ◌∷◌, ◌++◌, map, length, get_or, drop, Decides, Some, None, sym, refl, ap, ◌∙◌, inl, inr, arith, Bor}
 use Rattle.std.specs.List.{ContainsAt as Has}
 use Rattle.std.specs.List.{slice_get, range_with_len, zip, list_any, list_all}
+use Rattle.std.proofs.Math.Bool.{or_assoc}
 use Rattle.std.proofs.lemmas.List.{drop_more, drop_all}
 use Rattle.std.proofs.lemmas.Option.{slice_get-get_or}
 use Rattle.std.proofs.lemmas.Bool.{cases_lt, eq-eqb, ne_eqb, eqb-true, and_parts, and_from, and_left, both_ways, or_left, or_right, or_cases}
@@ -57,10 +58,6 @@ has-any ws v at (suc n) e =
     let x = some_begins ws (drop at v) in
     or_assoc x (list_any (λ k. some_begins ws (drop k v)) (range_with_len (at + 1) n)) _
     ∙ (ap (λ b. x || b) (has-any ws v (at + 1) n (omega arith)) ∙ (ap (λ l. some_begins ws l || has_word ws (drop (at + 1) v)) (drop_more v at 0 inside) ∙ sym (ap (has_word ws) (drop_more v at 0 inside))))
-  where
-    or_assoc : (x y z : Bool) → ((x || y) || z) ≡ (x || (y || z))
-    or_assoc true y z = refl
-    or_assoc false y z = refl
 
 -- what the tests say
 begins-true : (w v : List ℕ) → begins w v ≡ true → v ≡ w ++ drop (length w) v

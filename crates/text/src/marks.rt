@@ -1,6 +1,6 @@
 // Punctuation, counted as the text goes by.
 ghost use Rattle.std.specs.Prelude.{◌≡◌, ◌+◌, ◌-◌, ◌^◌, min};
-ghost use Rattle.text.specs.Marks.{mark_step, Counts};
+ghost use Rattle.text.specs.Marks.{moved, ends, mark_step, Counts};
 
 use crate::machine::Machine;
 
@@ -53,22 +53,27 @@ impl Marks {
     }
 }
 
+// Where the counter stands after a character, and whether a match ends with it.
+fn moved(state: State, c: char) -> (State, bool)
+    ensures { (result.0 ≡ moved state c) × (result.1 ≡ ends state c) }
+{
+    match (state, c) {
+        (State::Plain, '、' | '。' | '，' | '．' | '！' | '？' | '!' | '?') => (State::Plain, true),
+        (State::Plain, '.') => (State::AfterStop, false),
+        (State::Plain, ',') => (State::AfterComma, false),
+        (State::Plain, _) => (State::Plain, false),
+        (State::AfterStop, 'A'..='Z' | 'a'..='z' | '0'..='9') => (State::Plain, false),
+        (State::AfterStop, _) => (State::Plain, true),
+        (State::AfterComma, '0'..='9') => (State::Plain, false),
+        (State::AfterComma, _) => (State::Plain, true),
+    }
+}
+
 impl Machine for Marks {
     ghost step = { mark_step };
 
     fn eat(&mut self, c: char) {
-        let (state, matched) = match (self.state, c) {
-            (State::Plain, '、' | '。' | '，' | '．' | '！' | '？' | '!' | '?') => {
-                (State::Plain, true)
-            }
-            (State::Plain, '.') => (State::AfterStop, false),
-            (State::Plain, ',') => (State::AfterComma, false),
-            (State::Plain, _) => (State::Plain, false),
-            (State::AfterStop, 'A'..='Z' | 'a'..='z' | '0'..='9') => (State::Plain, false),
-            (State::AfterStop, _) => (State::Plain, true),
-            (State::AfterComma, '0'..='9') => (State::Plain, false),
-            (State::AfterComma, _) => (State::Plain, true),
-        };
+        let (state, matched) = moved(self.state, c);
         self.state = state;
         self.count = self.count.saturating_add(usize::from(matched));
     }

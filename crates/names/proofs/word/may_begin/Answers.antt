@@ -1,5 +1,5 @@
 -- The first byte of the word is the one that stands there, or the word does not.
-use Rattle.std.proofs.Common.{◌≡◌, true, Some, get_or, ◌∙◌, rules, arith, length}
+use Rattle.std.proofs.Common.{◌≡◌, Some, get_or, ◌∙◌, rules}
 use borrow.Author.Tests.{tests}
 use Rattle.names.proofs.Occurs.{stands-first}
 use Rattle.names.proofs.word.may_begin.Goals as goal

@@ -1,7 +1,5 @@
 -- Each of the four calls answers the byte at its place.
 use Rattle.std.proofs.Common.{zero, suc, rules, arith}
-use Rattle.page.specs.Forest.{find, part_of}
-use Rattle.text.proofs.Reading.{byte-is}
 use Rattle.text.proofs.part.next_bytes.Goals as goal
 
 pub returns : goal.returns
