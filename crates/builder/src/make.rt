@@ -12,7 +12,7 @@ use crate::lent::Lent;
 use crate::refusal::BuildRefusal;
 use crate::store::Store;
 use linked::{LinkedNode, LinkedPage, LinkedRecords};
-use table::{AttrRecord, NodeRecord};
+use table::AttrRecord;
 
 // A store in which the document has taken the first record.
 fn begin<'a>(
@@ -24,19 +24,7 @@ fn begin<'a>(
     ensures { state_in result ≡ begun nodes.old attrs.old bytes.old }
 {
     let mut nodes = Lent::new(nodes);
-    nodes.push(LinkedNode {
-        node: NodeRecord {
-            kind: 0,
-            depth: 0,
-            attrs: 0,
-            first: 0,
-            start: 0,
-            len: 0,
-        },
-        parent: None,
-        first_child: None,
-        next_sibling: None,
-    });
+    nodes.push(LinkedNode::DOCUMENT);
     Store {
         nodes,
         attrs: Lent::new(attrs),
