@@ -1,8 +1,12 @@
 -- A word that occurs in a value, place by place, and as a relation.
-use Rattle.std.proofs.Common.{◌≡◌, ℕ, zero, suc, ◌+◌, ◌-◌, ◌<◌, ◌≤◌, Bool, true, false, ◌&&◌, ◌||◌, eqb, ◌⊎◌, List, [], ◌∷◌, ◌++◌, map, length, get_or, drop, Decides, Some, None, sym, refl, ap, ◌∙◌, inl, inr, arith, Bor}
+use Rattle.std.proofs.Common.{◌≡◌, ℕ, zero, suc, ◌+◌, ◌-◌, ◌<◌, ◌≤◌, Bool, true, false, ◌&&◌, ◌||◌, eqb, ◌⊎◌, List, [], ◌∷◌, ◌++◌, map, length, get_or, drop, Decides, Some, None, Option, sym, refl, ap, ◌∙◌, inl, inr, arith, Bor}
 use Rattle.std.specs.List.{ContainsAt as Has}
 use Rattle.std.specs.List.{slice_get, range_with_len, zip, list_any, list_all}
-use Rattle.std.proofs.Math.Bool.{or_assoc}
+use Rattle.std.specs.declared.ops.RangeInclusive.{RangeInclusive}
+use Rattle.std.specs.Range.{range_inclusive_left, range_inclusive_len, range_inclusive_steps}
+use Rattle.std.proofs.Math.Bool.{or-false}
+use Rattle.std.proofs.lemmas.Iterator.{YieldsList}
+use Rattle.std.proofs.lemmas.Iterator.Consumers.{YieldsList-from_shown}
 use Rattle.std.proofs.lemmas.List.{drop_more, drop_all}
 use Rattle.std.proofs.lemmas.Option.{slice_get-get_or}
 use Rattle.std.proofs.lemmas.Bool.{cases_lt, eq-eqb, ne_eqb, eqb-true, and_parts, and_from, and_left, both_ways, or_left, or_right, or_cases}
@@ -49,15 +53,39 @@ some-any [] v = refl
 some-any (w ∷ ws) v = ap (λ b. begins w.now v || b) (some-any ws v)
 
 -- a search of the places from at on, n of them and the end
-pub has-any : (ws : List (List ℕ)) (v : List ℕ) (at n : ℕ) → at + n ≡ length v → (list_any (λ k. some_begins ws (drop k v)) (range_with_len at n) || some_begins ws (drop (length v) v)) ≡ has_word ws (drop at v)
+pub has-any : (ws : List (List ℕ)) (v : List ℕ) (at n : ℕ) → at + n ≡ length v → list_any (λ k. some_begins ws (drop k v)) (range_with_len at (suc n)) ≡ has_word ws (drop at v)
 has-any ws v at zero e =
-    let end : at ≡ length v = omega arith in
-    ap (some_begins ws) (drop_all (length v) v (omega arith)) ∙ sym (ap (has_word ws) (drop_all at v (omega arith)))
+    let end : drop at v ≡ [] = drop_all at v (omega arith) in
+    or-false (some_begins ws (drop at v)) ∙ (ap (some_begins ws) end ∙ sym (ap (has_word ws) end))
 has-any ws v at (suc n) e =
     let inside : at < length v = omega arith in
-    let x = some_begins ws (drop at v) in
-    or_assoc x (list_any (λ k. some_begins ws (drop k v)) (range_with_len (at + 1) n)) _
-    ∙ (ap (λ b. x || b) (has-any ws v (at + 1) n (omega arith)) ∙ (ap (λ l. some_begins ws l || has_word ws (drop (at + 1) v)) (drop_more v at 0 inside) ∙ sym (ap (has_word ws) (drop_more v at 0 inside))))
+    ap (λ b. some_begins ws (drop at v) || b) (has-any ws v (at + 1) n (omega arith))
+    ∙ (ap (λ l. some_begins ws l || has_word ws (drop (at + 1) v)) (drop_more v at 0 inside) ∙ sym (ap (has_word ws) (drop_more v at 0 inside)))
+
+-- the numbers of an inclusive range
+counted : (a n b m x : ℕ) → n ≡ suc m → x ≡ a → (0 < m → b ≡ a + 1) → range_with_len a n ≡ x ∷ range_with_len b m
+counted a n b zero x e f g = λ i. range_with_len (sym f i) (e i)
+counted a n b (suc m) x e f g = (λ i. range_with_len (sym f i) (e i)) ∙ ap (λ c. x ∷ range_with_len c (suc m)) (ap (λ y. y + 1) f ∙ sym (g (omega arith)))
+
+abbrev pub left : RangeInclusive ℕ → ℕ
+left s = range_inclusive_left (λ a b. b - a) s
+
+abbrev pub inclusive_steps : RangeInclusive ℕ → Option ℕ → RangeInclusive ℕ → Type 0
+inclusive_steps = range_inclusive_steps (λ a b. b - a) (λ a b. b ≡ a + 1)
+
+pub YieldsList-from_inclusive : (s : RangeInclusive ℕ) → YieldsList inclusive_steps (λ x. x) s (range_with_len s.start (left s))
+YieldsList-from_inclusive = YieldsList-from_shown inclusive_steps (λ x. x) (λ s. range_with_len s.start (left s))
+    (λ s t p. ap (λ n. length (range_with_len s.start n)) p.1.0)
+    (λ s x t p. counted s.start (left s) t.start (left t) x (omega (arith, p.1.1)) p.1.0 (λ h. p.1.2 (open_yet t.start t.end t.exhausted h)))
+  where
+    open_yet : (a b : ℕ) (e : Bool) → 0 < range_inclusive_len (λ a b. b - a) a b e → e ≡ false
+    open_yet a b true h = absurd (omega arith)
+    open_yet a b false h = refl
+
+pub from-zero : (s : RangeInclusive ℕ) (n : ℕ) → s.start ≡ 0 → s.end ≡ n → s.exhausted ≡ false → range_with_len s.start (left s) ≡ range_with_len 0 (suc n)
+from-zero s n a b e =
+    let long : n - 0 + 1 - (0 - n) ≡ suc n = omega arith in
+    (λ i. range_with_len (a i) (range_inclusive_len (λ a b. b - a) (a i) (b i) (e i))) ∙ ap (range_with_len 0) long
 
 -- what the tests say
 begins-true : (w v : List ℕ) → begins w v ≡ true → v ≡ w ++ drop (length w) v

@@ -109,7 +109,5 @@ pub fn has_word_of<P: Page>(part: &PartOf<'_, P>, words: &[&[u8]]) -> bool
     ensures value { result ≡ has_word (map (λ x. x.now) words.now) part.now }
     ensures occurs { Decides result (SomeWord (map (λ x. x.now) words.now) part.now) }
 {
-    // The library proves less of `0..=len` than of `0..len`.
-    let len = part.len();
-    (0..len).any(|at| some_at(part, at, words)) || some_at(part, len, words)
+    (0..=part.len()).any(|at| some_at(part, at, words))
 }
