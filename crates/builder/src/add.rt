@@ -51,6 +51,7 @@ impl<'a> Store<'a> {
         self.bytes.extend_from_slice(name);
         self.bytes.extend_from_slice(value);
         self.nodes.items[self.current].node.attrs += 1;
+        // the lengths fit their fields by the room that is asked, so the casts lose nothing
         self.attrs.push(AttrRecord {
             name: name.len() as u16,
             value: value.len() as u16,

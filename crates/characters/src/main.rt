@@ -23,7 +23,7 @@ fn show(rt: &impl Print, bytes: &[u8]) -> io::Result<()> {
     };
     let count = count_chars(bytes);
     match decode(bytes) {
-        Some((c, w)) => println!(rt; "{word} {count} U+{:04X} {w}", c as u32),
+        Some((c, w)) => println!(rt; "{word} {count} U+{:04X} {w}", u32::from(c)),
         None => println!(rt; "{word} {count} none"),
     }
 }

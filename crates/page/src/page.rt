@@ -7,7 +7,8 @@ use crate::kind::{NodeKind, Part};
 
 // An ordered tree of numbered nodes. Every call takes any number and changes nothing. `has` is determined at every
 // number; a call that ends in `_of` is determined at a node (at a part, at a byte of a part) that is there, and away
-// from it may answer anything. `Ask` has the questions that are determined everywhere.
+// from it may answer anything. The premise stands with each call, since this is what a kind of page implements; `Node` has
+// it in its type for those who walk, and `Ask` has the questions that are determined everywhere.
 pub trait Page {
     // the tree that the page means
     ghost tree: { Self → Forest };

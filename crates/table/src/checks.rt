@@ -1,5 +1,5 @@
 // The checks of nodes, for records in any form. What stands before a node is read off the node before it, so each check is
-// local and the whole is linear.
+// local and the whole is linear. A 32-bit field becomes a `usize` by `as`, since `From` has no such conversion.
 ghost use Rattle.std.specs.Prelude.{◌≡◌, ◌+◌, ◌^◌, ◌<◌, ◌≤◌, [], ◌∷◌, length};
 ghost use Rattle.table.specs.declared.record.Check.TheVariants.{Kind, Depth, Layout, WellFormed};
 ghost use Rattle.table.specs.Checks.{is_parent_code, kind_ok, depth_ok, attr_end, attr_start, attrs_before, bytes_before, attr_ok, layout_ok, attr_formed, formed_ok, ends_ok, each, answer, first_no, of_node, of_nodes, refused};

@@ -1,5 +1,5 @@
 // What accepted records say of a node: its kind, how many attributes it has, and the lengths and bytes of its parts; and how
-// deep the deepest node stands.
+// deep the deepest node stands. A 32-bit field becomes a `usize` by `as`, since `From` has no such conversion.
 ghost use Rattle.std.specs.Prelude.{◌≡◌, ◌+◌, ◌<◌, true, is_some, Some};
 ghost use Rattle.page.specs.Forest.{has, find, kind_of, count_of, part_of, length_in, byte_in};
 ghost use Rattle.table.specs.Table.{attr_at, tree_of};

@@ -11,7 +11,7 @@ use table::Records;
 
 impl<'a> Sections<'a> {
     // The parent of node i, once the nodes that end before it are entered. It follows links that it writes on the way, so
-    // it is a `while`.
+    // it is a `while`. A number of a node is below 4,096, so `as` loses nothing and no conversion can fail.
     fn climb(&self, links: &mut [Link; 4096], i: usize) -> usize
         requires accepted { accepts (table_of self.now.file.now) ≡ true }
         requires low { 0 < i }
