@@ -18,11 +18,6 @@ use Rattle.builder.proofs.Adding.{Granted, added-sound, opened-sound}
 use Rattle.builder.proofs.Attributing.{AttrGranted, attributed-sound}
 use Rattle.builder.proofs.Closing.{closed-sound}
 
--- where no question is answered no, each is answered yes
-one-yes : (a : Bool) (x : BuildRefusal) (qs : List (Bool × BuildRefusal)) → first_no ((a, x) ∷ qs) ≡ None → (a ≡ true) × (first_no qs ≡ None)
-one-yes true x qs h = (refl, h)
-one-yes false x qs h = cc
-
 three-yes : (a b c : Bool) (x y z : BuildRefusal) → first_no ((a, x) ∷ (b, y) ∷ (c, z) ∷ []) ≡ None → (a ≡ true) × (b ≡ true) × (c ≡ true)
 three-yes a b c x y z h = grind (arith, common_steps)
 

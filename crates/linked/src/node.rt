@@ -1,6 +1,7 @@
 use table::NodeRecord;
 
-// One node in linked records: what every stored page has of a node, and the numbers of its relatives.
+// One node in linked records: what every stored page has of a node, and its relatives. They are numbers and no boxes, since the
+// caller lends the records and nothing is allocated.
 #[derive(Clone, Copy)]
 pub struct LinkedNode {
     pub node: NodeRecord,

@@ -59,7 +59,3 @@ levels-size (node m k c a kids rest) = omega (arith, levels-size kids, levels-si
 pub levels-parts : (f : Forest) (n : ℕ) → head_of f ≡ Some n → levels f ≡ max (suc (levels (kids_of f))) (levels (rest_of f))
 levels-parts none n h = absurd (let z : ◌≡◌ {A = ℕ} 0 1 = cc in omega arith)
 levels-parts (node m k c a kids rest) n h = refl
-
--- of a tree, all but the first level stand under its root
-pub levels-root : (t : Forest) (n : ℕ) → head_of t ≡ Some n → rest_of t ≡ none → levels t ≡ suc (levels (kids_of t))
-levels-root t n h e = omega (arith, levels-parts t n h, ap levels e)

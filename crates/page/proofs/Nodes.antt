@@ -55,10 +55,6 @@ pub trees-first : (f : Forest) (n : ℕ) → head_of f ≡ Some n → trees f �
 trees-first none n h = absurd (let z : ◌≡◌ {A = ℕ} 0 1 = cc in omega arith)
 trees-first (node m k c a kids rest) n h = refl
 
-pub trees-none : (f : Forest) → head_of f ≡ None → trees f ≡ []
-trees-none none h = refl
-trees-none (node m k c a kids rest) h = absurd (let z : ◌≡◌ {A = ℕ} 0 1 = cc in omega arith)
-
 pub tree-some : (f : Forest) (n : ℕ) → head_of f ≡ Some n → tree_or_none f ≡ Some f
 tree-some none n h = absurd (let z : ◌≡◌ {A = ℕ} 0 1 = cc in omega arith)
 tree-some (node m k c a kids rest) n h = refl

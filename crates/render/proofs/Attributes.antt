@@ -11,7 +11,3 @@ attr-name (node m k c a kids rest) j l = ap name_in (slice_get-get_or a j ([], [
 pub attr-value : (f : Forest) (j : ℕ) → j < length (attrs_of f) → part_of f (Value j) ≡ Some (get_or (attrs_of f) j ([], [])).1
 attr-value none j l = absurd (omega arith)
 attr-value (node m k c a kids rest) j l = ap value_in (slice_get-get_or a j ([], []) l)
-
-pub attr-count : (f : Forest) (r : ℕ) → Some r ≡ count_of f → r ≡ length (attrs_of f)
-attr-count none r e = cc
-attr-count (node m k c a kids rest) r e = cc

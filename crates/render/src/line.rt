@@ -64,6 +64,7 @@ fn push_attr<P: Page>(node: &Node<'_, P>, j: usize, out: &mut Vec<u8>) -> Result
     Ok(())
 }
 
+// Each attribute, by its number, as a page answers it.
 fn push_attrs<P: Page>(node: &Node<'_, P>, out: &mut Vec<u8>) -> Result<(), AllocError>
     ensures { OnOk result (out.new.items ≡ out.old.items ++ attrs_text (attrs_of node.now)) }
 {

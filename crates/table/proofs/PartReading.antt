@@ -23,9 +23,6 @@ module _ (t : Table) (acc : Accepted t) (n : ℕ) where
   pub part-inside : (p : Part) → is_some (part_of (find (tree_of t) n) p) ≡ true → n < length t.nodes
   part-inside p h = inside t acc n (part-has (tree_of t) n p h)
 
-  pub byte_inside : (p : Part) (i : ℕ) → is_some (byte_in (part_of (find (tree_of t) n) p) i) ≡ true → is_some (part_of (find (tree_of t) n) p) ≡ true
-  byte_inside p i h = byte-part (part_of (find (tree_of t) n) p) i h
-
   module _ (l : n < length t.nodes) where
     counted : Some (node_at t n).attrs ≡ count_of (find (tree_of t) n)
     counted = sym (ap count_of (found t acc n l) ∙ ap Some (length-attrs t (node_at t n).attrs (node_at t n).first))

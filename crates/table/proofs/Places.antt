@@ -74,11 +74,6 @@ steps_next [] m j h l = absurd (omega arith)
 steps_next (x ∷ xs) m zero h l = omega (arith, steps_first xs (reach x) (step m x xs h).next (omega arith), reach-most x)
 steps_next (x ∷ xs) m (suc j) h l = steps_next xs (reach x) j (step m x xs h).next (omega arith)
 
-pub formed-low : (xs : List Row) (n : ℕ) → formed xs ≡ true → n < length xs → 0 < n → 1 ≤ (get_or xs n blank).depth
-formed-low [] n h l p = absurd (omega arith)
-formed-low (x ∷ xs) zero h l p = absurd (omega arith)
-formed-low (x ∷ xs) (suc n) h l p = steps-at xs (reach x) n (form x xs h).next (omega arith)
-
 formed-step : (xs : List Row) (n : ℕ) → formed xs ≡ true → suc n < length xs → (get_or xs (suc n) blank).depth ≤ suc (get_or xs n blank).depth
 formed-step [] n h l = absurd (omega arith)
 formed-step (x ∷ xs) zero h l = omega (arith, steps_first xs (reach x) (form x xs h).next (omega arith), reach-most x)

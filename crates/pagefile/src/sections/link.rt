@@ -31,7 +31,7 @@ impl<'a> Sections<'a> {
         p
     }
 
-    // The links of all nodes. Every node is passed once on the way up.
+    // The links of all nodes, written by number, since climbing reads those before. Every node is passed once on the way up.
     pub(crate) fn link(&self, links: &mut [Link; 4096])
         requires { accepts (table_of self.now.file.now) ≡ true }
         ensures parents { Parents (table_of self.now.file.now) self.now.counts.nodes links.new }
