@@ -32,7 +32,7 @@ fn main(rt: HostRuntime) -> io::Result<()> {
     let mut input = Vec::new(rt.alloc());
     let _n = rt.stdin().read_to_end(&mut input)?;
     let mut bytes = Vec::new(rt.alloc());
-    // the first digit of a byte, which waits for the second over what stands between, the ends of lines too
+    // the first digit of a byte, kept until the second comes: what stands between is passed over, the ends of lines too
     let mut high = None;
     for b in input.as_slice() {
         match (digit(*b), high.take()) {

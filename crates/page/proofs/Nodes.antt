@@ -1,5 +1,5 @@
 -- What a node keeps of its page.
-use Rattle.std.proofs.Common.{◌≡◌, ℕ, ◌+◌, ◌≤◌, max, suc, Bool, true, false, cond, eqb, List, [], ◌∷◌, Some, None, is_some, length, refl, sym, ap, ◌∙◌, arith}
+use Rattle.std.proofs.Common.{◌≡◌, ℕ, ◌+◌, ◌≤◌, max, suc, Bool, true, false, cond, eqb, List, [], ◌∷◌, Some, is_some, length, refl, sym, ap, ◌∙◌, arith}
 use Rattle.page.specs.declared.kind.NodeKind.{NodeKind}
 use Rattle.page.specs.Forest.{Forest, none, node, or_else, find, head_of, kids_of, rest_of, attrs_of, count_of, size, levels, trees, tree_or_none}
 use Rattle.page.specs.Kept.{Kept, KeptNode, Below, WellFormed, Plain}
@@ -8,7 +8,7 @@ use Rattle.page.proofs.Walk.{texts-find}
 use Rattle.page.proofs.Parent.{size-find}
 use Rattle.page.proofs.Levels.{size_below}
 
--- what holds of a forest and is handed down to its parts holds of what is found in it
+-- what holds of a forest, and so of its parts, holds of what is found in it
 module _ (Q : Forest → Type 0) (kids-too : (m : ℕ) (k : NodeKind) (c : List ℕ) (a : List (List ℕ × List ℕ)) (kids rest : Forest) → Q (node m k c a kids rest) → Q kids) (rest-too : (m : ℕ) (k : NodeKind) (c : List ℕ) (a : List (List ℕ × List ℕ)) (kids rest : Forest) → Q (node m k c a kids rest) → Q rest) (nothing : Q none) where
   or_else-keeps : (f g : Forest) → Q f → Q g → Q (or_else f g)
   or_else-keeps none g x y = y

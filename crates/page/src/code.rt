@@ -1,5 +1,5 @@
 // The codes of the kinds.
-ghost use Rattle.std.specs.Prelude.{◌≡◌, MatchResult, ◌≢◌};
+ghost use Rattle.std.specs.Prelude.{◌≡◌, ◌++◌, Some, codes, decimal, MatchResult, ◌≢◌};
 ghost use Rattle.std.specs.Option.{ok_or};
 ghost use Rattle.page.specs.Kinds.{code, coded};
 
@@ -50,6 +50,8 @@ impl TryFrom<u8> for NodeKind {
 }
 
 impl fmt::Display for UnknownKind {
+    ghost output = { λ e. Some (codes "no kind of node has the code " ++ decimal e.0) };
+
     fn fmt<W: fmt::Write>(&self, f: &mut fmt::Formatter<W>) -> fmt::Result {
         write!(f, "no kind of node has the code {}", self.0)
     }

@@ -4,8 +4,8 @@ use Rattle.std.specs.List.{slice_get}
 use Rattle.std.proofs.lemmas.Bool.{both_ways, ltb-true}
 use Rattle.page.specs.declared.kind.Part.{Part}
 use Rattle.page.specs.declared.kind.Part.TheVariants.{Content, Name, Value}
-use Rattle.page.specs.Forest.{find, count_of, part_of, byte_in}
-use Rattle.page.proofs.Parts.{has-name, has_value, part-has, byte-part}
+use Rattle.page.specs.Forest.{find, count_of, part_of}
+use Rattle.page.proofs.Parts.{has-name, has_value, part-has}
 use Rattle.table.specs.Table.{Table, node_at, attr_at, tree_of}
 use Rattle.table.specs.Stored.{Lies}
 use Rattle.table.proofs.Accepted.{Accepted, laid}

@@ -15,8 +15,8 @@ pub enum State {
 // The matches so far, and where the counter stands.
 #[derive(Clone, Copy)]
 pub struct Marks {
-    state: State,
-    count: usize,
+    pub state: State,
+    pub count: usize,
 }
 
 impl Marks {

@@ -46,3 +46,7 @@ goes_on path (b ∷ bs) output input' output' some h e f =
       },
       omega (arith, turn-shorter b bs output, ap length e),
     )
+
+pub all_gone : (path input output : List ℕ) → length input ≡ 0 → Going path input output → output ≡ remove_dots path
+all_gone path [] output none h = h.left
+all_gone path (b ∷ bs) output none h = absurd (omega arith)

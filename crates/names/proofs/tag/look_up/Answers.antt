@@ -10,6 +10,10 @@ use Rattle.names.specs.Names.{same}
 use Rattle.names.proofs.Sames.{letters, tagged, sought-find}
 use Rattle.names.proofs.tag.look_up.Goals as goal
 
+picked : (r : Option (Bor (Bor (List ℕ) × Tag))) (t : Tag) → MatchOption r (t ≡ Other) (λ x. t ≡ x.now.1) → t ≡ tagged (option_map (λ y. y.now) r)
+picked None t h = h
+picked (Some x) t h = h
+
 pub returns : goal.returns
 returns g c =
     let w = letters c.args.part.now in

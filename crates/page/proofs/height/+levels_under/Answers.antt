@@ -1,4 +1,4 @@
-use Rattle.std.proofs.Common.{◌≡◌, ◌+◌, ◌<◌, max, ap, arith}
+use Rattle.std.proofs.Common.{◌<◌, ap, arith}
 use Rattle.page.specs.Forest.{kids_of, levels, size}
 use Rattle.page.proofs.Nodes.{taken, all_taken, levels-kids}
 use Rattle.page.proofs.height.+levels_under.Goals as goal
