@@ -27,7 +27,7 @@ fn width(lead: u8, second: u8) -> Option<usize>
 fn are_tails(bytes: &[u8]) -> bool
     ensures { result ≡ list_all (within tail) bytes.now }
 {
-    bytes.iter().all(|b| 0x80 <= *b && *b <= 0xBF)
+    bytes.iter().all(|b| (0x80..=0xBF).contains(b))
 }
 
 // How many bytes the first character takes, where one begins.
@@ -39,8 +39,7 @@ fn first_width(bytes: &[u8]) -> Option<usize>
     if lead < 0x80 {
         return Some(1);
     }
-    let second = bytes.get(1).copied().unwrap_or(0);
-    let w = width(lead, second)?;
+    let w = width(lead, *bytes.get(1)?)?;
     if bytes.len() < w {
         return None;
     }

@@ -10,7 +10,7 @@ returns-clause-width c =
     let bs = c.args.bytes.now in
     let first : c.in_ok-lead.field-0.now ≡ get_or bs 0 0 = search rules in
     let some : 0 < length bs = search rules in
-    let second : c.unwrap_or-second.result ≡ get_or bs 1 0 = search rules in
+    let second : c.in_ok-get.field-0.now ≡ get_or bs 1 0 = search rules in
     let width : some_width (counted (begin table (get_or bs 0 0)) (get_or bs 1 0)) ≡ Some c.in_ok-w.w = search rules in
     let tails : c.are_tails.result ≡ list_all (within tail) (take (c.in_ok-w.w - 2) (drop 2 bs)) = search rules in
     c.then_some.ensures ∙ shown bs c.in_ok-w.w c.are_tails.result width some (omega arith) (omega arith) tails
