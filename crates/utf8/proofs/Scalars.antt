@@ -1,11 +1,11 @@
 -- The characters of bytes in order: one step of decoding, and what encoded characters give.
-use Rattle.std.proofs.Common.{◌≡◌, ℕ, zero, suc, pred, ◌<◌, true, List, [], ◌∷◌, ◌++◌, length, drop, Some, None, Option, sym, refl, ap, ◌∙◌, arith}
+use Rattle.std.proofs.Common.{◌≡◌, ℕ, zero, suc, pred, ◌≤◌, true, List, [], ◌∷◌, ◌++◌, length, drop, Some, None, Option, sym, refl, ap, ◌∙◌, arith}
 use lib.Utf8.{scalar, scalars, encode, encodes}
 use Rattle.std.proofs.lemmas.List.{drop_at, append_assoc, append-nil}
 use Rattle.std.proofs.lemmas.Bool.{and_parts}
-use Rattle.utf8.specs.Decode.{decoded, width_of, scalars_past, scalars_of}
+use Rattle.utf8.specs.Decode.{decoded, scalars_past, scalars_of}
 use Rattle.utf8.proofs.Encoding.{decoded-front}
-use Rattle.utf8.proofs.Rows.{never, nothing}
+use Rattle.utf8.proofs.Rows.{never}
 
 -- to pass over bytes is to drop them
 scalars_past-drop : (l : List ℕ) (n : ℕ) → scalars_past l n ≡ scalars_of (drop n l)
@@ -42,13 +42,15 @@ scalars_of-front (c ∷ cs) rest h =
 pub scalars_of-encodes : (cs : List ℕ) → scalars cs ≡ true → scalars_of (encodes cs) ≡ cs
 scalars_of-encodes cs h = ap scalars_of (sym (append-nil (encodes cs))) ∙ (scalars_of-front cs [] h ∙ append-nil cs)
 
--- one step by the width, of how many characters there are
-pub count_past : (l : List ℕ) → 0 < width_of (decoded l) → length (scalars_of l) ≡ suc (length (scalars_of (drop (width_of (decoded l)) l)))
-count_past l h = go (decoded l) refl h
+-- no more characters than bytes
+few_past : (l : List ℕ) (n : ℕ) → length (scalars_past l n) ≤ length l
+few_past [] n = omega arith
+few_past (b ∷ t) (suc n) = omega (arith, few_past t n)
+few_past (b ∷ t) zero = go (decoded (b ∷ t)) (λ m. few_past t m)
   where
-    go : (o : Option (ℕ × ℕ)) → decoded l ≡ o → 0 < width_of o → length (scalars_of l) ≡ suc (length (scalars_of (drop (width_of (decoded l)) l)))
-    go None e h = absurd (omega arith)
-    go (Some p) e h = ap length (scalars_of-some l p.0 p.1 e) ∙ ap (λ n. suc (length (scalars_of (drop n l)))) (sym (ap width_of e))
+    go : (o : Option (ℕ × ℕ)) → ((m : ℕ) → length (scalars_past t m) ≤ length t) → length (after t o) ≤ suc (length t)
+    go None f = omega arith
+    go (Some p) f = omega (arith, f (pred p.1))
 
-pub count_none : (l : List ℕ) → width_of (decoded l) ≡ 0 → length (scalars_of l) ≡ 0
-count_none l h = ap length (scalars_of-none l (nothing l h))
+pub few : (l : List ℕ) → length (scalars_of l) ≤ length l
+few l = few_past l 0

@@ -1,6 +1,7 @@
 // Whether bytes are well-formed UTF-8, their first character, and how many characters they have.
 ghost use Rattle.std.specs.Prelude.{◌≡◌, ℕ, ◌+◌, ◌-◌, ◌*◌, ◌%◌, ◌^◌, ◌<◌, ◌≤◌, true, List, ◌++◌, length, drop, Some, None, IsUtf8, Decides, ◌≢◌, IfSome};
 ghost use Rattle.std.proofs.Math.Utf8.{scalar, scalars, encode, encodes};
+ghost use Rattle.std.specs.Iterator.{YieldsFirst, item_count};
 ghost use Rattle.std.specs.List.{list_all};
 ghost use Rattle.utf8.specs.Decode.{decoded, width_of, some_width, scalars_of, Begins};
 ghost use Rattle.utf8.specs.Table.{tail, within, table, begin, counted, well_formed};
@@ -92,16 +93,28 @@ pub fn decode(bytes: &[u8]) -> Option<(char, usize)>
     Some((unsafe { char::from_u32_unchecked(code) }, w))
 }
 
+// The characters that are left of bytes, up to the first place where none begins.
+#[derive(Drop)]
+struct Chars<'a>(&'a [u8]);
+
+impl<'a> Iterator for Chars<'a> {
+    type Item = char;
+
+    ghost next_gives = { YieldsFirst (λ s. scalars_of s.0.now) };
+
+    ghost remaining = { item_count (λ s. scalars_of s.0.now) };
+
+    fn next(&mut self) -> Option<char> {
+        let (c, w) = decode(self.0)?;
+        self.0 = self.0.split_at(w).1;
+        Some(c)
+    }
+}
+
 // How many characters the bytes have, up to the first place where none begins.
 pub fn count_chars(bytes: &[u8]) -> usize
     ensures count { result ≡ length (scalars_of bytes.now) }
     ensures order { (cs : List ℕ) → scalars cs ≡ true → bytes.now ≡ encodes cs → scalars_of bytes.now ≡ cs }
 {
-    let mut count = 0;
-    let mut rest = bytes;
-    while let Some(w) = first_width(rest) {
-        rest = rest.split_at(w).1;
-        count += 1;
-    }
-    count
+    Chars(bytes).count()
 }
