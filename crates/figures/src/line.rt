@@ -1,10 +1,9 @@
 // The line of an element.
-ghost use Rattle.std.specs.Prelude.{◌≡◌, ◌++◌, IfOk, string_bytes, codes, decimal, OnOk};
+ghost use Rattle.std.specs.Prelude.{◌≡◌, ◌++◌, is_some, unwrap_or, IfOk, string_bytes, codes, decimal, OnOk};
 ghost use Rattle.page.specs.Forest.{kids_of};
 ghost use Rattle.page.specs.declared.kind.Part.TheVariants.{Content};
 ghost use Rattle.text.specs.Held.{held};
 ghost use Rattle.dom.specs.Under.{under_of};
-ghost use Rattle.scorer.specs.Content.{score_by};
 ghost use Rattle.figures.specs.Points.{lowered_name, numbered, figures_text, element_line};
 
 use dom::Under;
@@ -25,22 +24,20 @@ fn name_text<P: Page>(heap: Global, p: &P, n: usize) -> Result<String, AllocErro
         .collect(heap)
 }
 
-// The figures behind the name.
+// The figures behind the name, with the content score of an element that qualifies.
 fn figures_text(
     heap: Global,
     under: &Under,
     weight: i32,
-    qualifies: bool,
+    score: Option<usize>,
 ) -> Result<String, AllocError>
-    ensures { IfOk result (λ s. string_bytes s ≡ figures_text under.now.text under.now.links weight qualifies (score_by under.now)) }
+    ensures { IfOk result (λ s. string_bytes s ≡ figures_text under.now.text under.now.links weight (is_some score) (unwrap_or score 0)) }
 {
     let text = under.text;
     let links = under.links;
-    if qualifies {
-        let score = content_score_by(under);
-        format!(in heap; " {text} {links} {weight} yes {score}\n")
-    } else {
-        format!(in heap; " {text} {links} {weight} no -\n")
+    match score {
+        Some(score) => format!(in heap; " {text} {links} {weight} yes {score}\n"),
+        None => format!(in heap; " {text} {links} {weight} no -\n"),
     }
 }
 
@@ -79,7 +76,8 @@ pub(crate) fn push_line<P: Page>(
     let n = node.number();
     push_name(heap, p, n, out)?;
     let weight = get_class_weight(p, n);
-    let text = figures_text(heap, under, weight, qualifies_by(tag_of(p, n), under))?;
+    let score = qualifies_by(tag_of(p, n), under).then(|| content_score_by(under));
+    let text = figures_text(heap, under, weight, score)?;
     out.extend_from_slice(text.as_bytes())?;
     Ok(())
 }
