@@ -25,7 +25,7 @@ fn with_node<P: Page>(node: &Node<'_, P>, inner: &Under) -> Under
     }
 }
 
-// Writes an entry of the table, if it has one at the place.
+// Writes an entry of the table, if it has one at the place. By index, since a contract of `get_mut` tells nothing of the entries.
 fn put(table: &mut [Under], at: usize, under: Under)
     ensures { table.new ≡ slice_set table.old at under }
 {

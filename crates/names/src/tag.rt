@@ -50,7 +50,7 @@ pub enum Tag {
 }
 
 impl Tag {
-    // Whether this is the other tag.
+    // Whether this is the other tag: the derived `==`, with its meaning in a contract.
     pub fn is(self, other: Tag) -> bool
         ensures value { result ≡ is self other }
         ensures decides { Decides result (self ≡ other) }
@@ -58,7 +58,7 @@ impl Tag {
         self == other
     }
 
-    // Whether this is one of the tags.
+    // Whether this is one of the tags: `contains`, with its meaning in a contract.
     pub fn is_among(self, tags: &[Tag]) -> bool
         ensures { result ≡ among tags.now self }
     {

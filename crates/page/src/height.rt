@@ -5,7 +5,8 @@ ghost use Rattle.page.specs.Forest.{kids_of, levels, height_of};
 use crate::node::Node;
 use crate::page::Page;
 
-// How many levels stand under a node. It calls itself once a level, and a page has at most 64.
+// How many levels stand under a node. It calls itself once a level, and a page has at most 64. The loop is no chain, since a
+// call of the function itself in a closure gets no proof.
 fn levels_under<P: Page>(node: &Node<'_, P>) -> usize
     ensures { result ≡ levels (kids_of node.now) }
 {

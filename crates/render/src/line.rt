@@ -16,7 +16,7 @@ fn push_indent(out: &mut Vec<u8>, depth: usize) -> Result<(), AllocError>
     out.resize(out.len() + depth * 2, b' ')
 }
 
-// The word of a kind. The enum is of another crate, which has no words, so it is no `Display`.
+// The word of a kind, as bytes: they go into a vector of bytes, where a `Display` would be no plainer.
 fn kind_word(kind: NodeKind) -> &'static [u8]
     ensures { result.now ≡ word kind }
 {
