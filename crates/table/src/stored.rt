@@ -36,15 +36,9 @@ impl<'a, R: Records> Reader<'a, R> {
     {
         let x = self.records.node(n);
         match part {
-            Part::Content => (x.start as usize, x.len as usize),
-            Part::Name(j) => {
-                let a = attr_of(self.records, x, j);
-                (a.start as usize, usize::from(a.name))
-            }
-            Part::Value(j) => {
-                let a = attr_of(self.records, x, j);
-                (a.start as usize + usize::from(a.name), usize::from(a.value))
-            }
+            Part::Content => x.content_place(),
+            Part::Name(j) => attr_of(self.records, x, j).name_place(),
+            Part::Value(j) => attr_of(self.records, x, j).value_place(),
         }
     }
 
@@ -52,7 +46,8 @@ impl<'a, R: Records> Reader<'a, R> {
     pub fn kind_of(&self, n: usize) -> NodeKind
         ensures { let t = R.table self.now.records.now in has (tree_of t) n ≡ true → Some result ≡ kind_of (find (tree_of t) n) }
     {
-        NodeKind::try_from(self.records.node(n).kind).unwrap_or(NodeKind::Element)
+        let x = self.records.node(n);
+        x.named_kind().unwrap_or(NodeKind::Element)
     }
 
     // How many attributes the node n has.
