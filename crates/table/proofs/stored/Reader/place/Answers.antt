@@ -16,7 +16,7 @@ returns-in-Content g c h =
     let t = g.R.Records.table c.args.self.now.records.now in
     let n = c.args.n in
     let x = c.node-x.ensures in
-    at t n _ _ _ _ _ _ c.in-Content.is (ap (λ y. y.0) c.content_place.ensures ∙ ap (λ y. y.start) x) (ap (λ y. y.1) c.content_place.ensures ∙ ap (λ y. y.len) x) (content-lies t (accepted t c.args.self.now.accepted) n (part-inside t (accepted t c.args.self.now.accepted) n c.args.part h))
+    at t n _ _ _ _ _ _ c.in-Content.is (ap (λ y. y.start) x) (ap (λ y. y.len) x) (content-lies t (accepted t c.args.self.now.accepted) n (part-inside t (accepted t c.args.self.now.accepted) n c.args.part h))
 
 pub returns-in-Name : goal.returns-in-Name
 returns-in-Name g c h =
@@ -27,8 +27,8 @@ returns-in-Name g c h =
     let x = c.node-x.ensures in
     let l = part-inside t a n c.args.part h in
     let some : j < (node_at t n).attrs = name-inside t a n l j (subst (λ q. is_some (part_of (find (tree_of t) n) q) ≡ true) c.in-Name.is h) in
-    let e = c.attr_of.ensures (omega (arith, ap (λ y. y.attrs) x, some)) ∙ ap (λ y. attr_at t (y.first + j)) x in
-    at t n _ _ _ _ _ _ c.in-Name.is (ap (λ y. y.0) c.name_place.ensures ∙ ap (λ y. y.start) e) (ap (λ y. y.1) c.name_place.ensures ∙ ap (λ y. y.name) e) (name-lies t a n l j some)
+    let e = c.attr_of-a.ensures (omega (arith, ap (λ y. y.attrs) x, some)) ∙ ap (λ y. attr_at t (y.first + j)) x in
+    at t n _ _ _ _ _ _ c.in-Name.is (ap (λ y. y.start) e) (c.from.ensures ∙ ap (λ y. y.name) e) (name-lies t a n l j some)
 
 pub returns-in-Value : goal.returns-in-Value
 returns-in-Value g c h =
@@ -39,5 +39,5 @@ returns-in-Value g c h =
     let x = c.node-x.ensures in
     let l = part-inside t a n c.args.part h in
     let some : j < (node_at t n).attrs = value-inside t a n l j (subst (λ q. is_some (part_of (find (tree_of t) n) q) ≡ true) c.in-Value.is h) in
-    let e = c.attr_of-in-Value.ensures (omega (arith, ap (λ y. y.attrs) x, some)) ∙ ap (λ y. attr_at t (y.first + j)) x in
-    at t n _ _ _ _ _ _ c.in-Value.is (ap (λ y. y.0) c.value_place.ensures ∙ ap (λ y. y.start + y.name) e) (ap (λ y. y.1) c.value_place.ensures ∙ ap (λ y. y.value) e) (value-lies t a n l j some)
+    let e = c.attr_of-a-in-Value.ensures (omega (arith, ap (λ y. y.attrs) x, some)) ∙ ap (λ y. attr_at t (y.first + j)) x in
+    at t n _ _ _ _ _ _ c.in-Value.is (λ i. (e i).start + (c.from-in-Value.ensures ∙ ap (λ y. y.name) e) i) (c.from-in-Value-2.ensures ∙ ap (λ y. y.value) e) (value-lies t a n l j some)
