@@ -1,5 +1,8 @@
-ghost use Rattle.std.specs.Prelude.{◌≡◌};
+ghost use Rattle.std.specs.Prelude.{◌≡◌, ◌++◌, codes, decimal, Some};
 ghost use Rattle.builder.specs.Refusals.{number, record_of};
+
+use std::error::Error;
+use std::fmt;
 
 // Why an event is refused.
 #[derive(Clone, Copy, PartialEq, Eq, Debug)]
@@ -34,3 +37,14 @@ impl BuildRefusal {
         0
     }
 }
+
+// The number and the record of a refusal.
+impl fmt::Display for BuildRefusal {
+    ghost output = { λ r. Some (decimal (number r) ++ (codes " " ++ decimal (record_of r))) };
+
+    fn fmt<W: fmt::Write>(&self, f: &mut fmt::Formatter<W>) -> fmt::Result {
+        write!(f, "{} {}", self.number(), self.record())
+    }
+}
+
+impl Error for BuildRefusal {}

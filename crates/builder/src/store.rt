@@ -13,6 +13,6 @@ pub(crate) struct Store<'a> {
     // the innermost open node and its last child
     pub(crate) current: usize,
     pub(crate) last: Option<usize>,
-    // Whether the event just granted was an element or an attribute. Apart from `last`, since each event reads one of the two.
+    // Whether the event just granted was an element or an attribute: `last.is_none() && current != 0` says the same less plainly.
     pub(crate) fresh: bool,
 }

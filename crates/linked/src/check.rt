@@ -13,16 +13,9 @@ impl<'a> LinkedRecords<'a> {
     fn check_counts(&self) -> Result<(), Check>
         ensures { refused result ≡ first_no (answer self.now.nodes.now (table_in self.now)) (CountInRange Nodes ∷ CountInRange Attributes ∷ CountInRange Bytes ∷ []) }
     {
-        if !Section::Nodes.in_range(self.nodes()) {
-            return Err(Check::CountInRange(Section::Nodes));
-        }
-        if !Section::Attributes.in_range(self.attrs()) {
-            return Err(Check::CountInRange(Section::Attributes));
-        }
-        if !Section::Bytes.in_range(self.bytes()) {
-            return Err(Check::CountInRange(Section::Bytes));
-        }
-        Ok(())
+        Section::Nodes.check_count(self.nodes())?;
+        Section::Attributes.check_count(self.attrs())?;
+        Section::Bytes.check_count(self.bytes())
     }
 
     // The checks of node i, where the links of those before match.

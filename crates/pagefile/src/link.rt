@@ -1,7 +1,7 @@
 // The link of a node.
 
 // The parent of a node after the root, and the first node after it that does not stand under it, if there is one. The
-// parent is no Option, which would make a link a third larger: the root's is never read.
+// parent is no Option, which would make a page larger than 32 KB: the root's is never read.
 #[derive(Clone, Copy)]
 pub(crate) struct Link {
     pub(crate) parent: u16,

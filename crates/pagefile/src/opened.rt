@@ -10,7 +10,7 @@ use crate::link::Link;
 use crate::sections::Sections;
 
 // A page file that was accepted. Each node's parent, the end of what stands under it, and the height are computed once,
-// so that every question takes constant time.
+// so that every question takes constant time. The links are an array, since an `ArrayVec` is not `Copy` as a page is.
 #[derive(Clone, Copy)]
 pub struct OpenedPage<'a> {
     pub(crate) sections: Sections<'a>,

@@ -1,6 +1,6 @@
 // The checks of nodes, for records in any form. What stands before a node is read off the node before it, so each check is
 // local and the whole is linear. A 32-bit field becomes a `usize` by `as`, since `From` has no such conversion.
-ghost use Rattle.std.specs.Prelude.{◌≡◌, ◌+◌, ◌^◌, ◌<◌, ◌≤◌, [], ◌∷◌, length};
+ghost use Rattle.std.specs.Prelude.{◌≡◌, ◌==◌, ◌&&◌, ◌||◌, not, ◌+◌, ◌^◌, ◌<◌, ◌≤◌, [], ◌∷◌, length};
 ghost use Rattle.table.specs.declared.record.Check.TheVariants.{Kind, Depth, Layout, WellFormed};
 ghost use Rattle.table.specs.Checks.{is_parent_code, kind_ok, depth_ok, attr_end, attr_start, attrs_before, bytes_before, attr_ok, layout_ok, attr_formed, formed_ok, ends_ok, each, answer, first_no, of_node, of_nodes, refused};
 
@@ -9,20 +9,17 @@ use crate::records::Records;
 use page::NodeKind;
 use utf8::well_formed;
 
-fn is_parent_code(kind: u8) -> bool
-    ensures { result ≡ is_parent_code kind }
+fn is_parent(x: NodeRecord) -> bool
+    ensures { result ≡ is_parent_code x.kind }
 {
-    matches!(
-        NodeKind::try_from(kind),
-        Ok(NodeKind::Document | NodeKind::Element)
-    )
+    matches!(x.named_kind(), Ok(NodeKind::Document | NodeKind::Element))
 }
 
 // The document first and only there, and each other code that of a kind.
 pub fn kind_ok<R: Records>(t: &R, i: usize) -> bool
     ensures { result ≡ kind_ok (R.table t.now) i }
 {
-    match NodeKind::try_from(t.node(i).kind) {
+    match t.node(i).named_kind() {
         Ok(NodeKind::Document) => i == 0,
         Ok(_) => i != 0,
         Err(_) => false,
@@ -39,14 +36,14 @@ pub fn depth_ok<R: Records>(t: &R, i: usize) -> bool
     }
     let before = t.node(i - 1);
     (1..=62).contains(&depth)
-        && (depth <= before.depth || (depth == before.depth + 1 && is_parent_code(before.kind)))
+        && (depth <= before.depth || (depth == before.depth + 1 && is_parent(before)))
 }
 
 fn attr_end<R: Records>(t: &R, j: usize) -> usize
     ensures { result ≡ attr_end (R.table t.now) j }
 {
-    let a = t.attr(j);
-    a.start as usize + usize::from(a.name) + usize::from(a.value)
+    let (start, len) = t.attr(j).value_place();
+    start + len
 }
 
 fn attr_start<R: Records>(t: &R, x: NodeRecord, k: usize) -> usize
@@ -54,30 +51,23 @@ fn attr_start<R: Records>(t: &R, x: NodeRecord, k: usize) -> usize
     ensures { result ≡ attr_start (R.table t.now) x k }
 {
     if k == 0 {
-        x.start as usize + x.len as usize
+        let (start, len) = x.content_place();
+        start + len
     } else {
         attr_end(t, x.first as usize + (k - 1))
     }
 }
 
-fn attrs_before<R: Records>(t: &R, i: usize) -> usize
-    ensures { result ≡ attrs_before (R.table t.now) i }
+// How many attributes and bytes the nodes before node i have.
+fn before<R: Records>(t: &R, i: usize) -> (usize, usize)
+    ensures { result ≡ (attrs_before (R.table t.now) i, bytes_before (R.table t.now) i) }
 {
     if i == 0 {
-        return 0;
+        return (0, 0);
     }
     let x = t.node(i - 1);
-    x.first as usize + usize::from(x.attrs)
-}
-
-fn bytes_before<R: Records>(t: &R, i: usize) -> usize
-    ensures { result ≡ bytes_before (R.table t.now) i }
-{
-    if i == 0 {
-        return 0;
-    }
-    let x = t.node(i - 1);
-    attr_start(t, x, usize::from(x.attrs))
+    let attrs = usize::from(x.attrs);
+    (x.first as usize + attrs, attr_start(t, x, attrs))
 }
 
 fn attr_ok<R: Records>(t: &R, x: NodeRecord, k: usize) -> bool
@@ -94,17 +84,29 @@ fn attrs_ok<R: Records>(t: &R, x: NodeRecord) -> bool
     (0..usize::from(x.attrs)).all(|k| attr_ok(t, x, k))
 }
 
+// Attributes on elements only, the document's content empty.
+fn kind_fits(x: NodeRecord) -> bool
+    ensures { result ≡ (x.attrs == 0 || x.kind == 4) && (not (x.kind == 0) || x.len == 0) }
+{
+    match x.named_kind() {
+        Ok(NodeKind::Element) => true,
+        Ok(NodeKind::Document) => x.attrs == 0 && x.len == 0,
+        _ => x.attrs == 0,
+    }
+}
+
 // Attributes on elements only, the document's content empty, attributes and bytes running on without gap, all inside.
 pub fn layout_ok<R: Records>(t: &R, i: usize) -> bool
     ensures { result ≡ layout_ok (R.table t.now) i }
 {
     let x = t.node(i);
-    (x.attrs == 0 || x.kind == u8::from(NodeKind::Element))
-        && (x.kind != u8::from(NodeKind::Document) || x.len == 0)
-        && x.first as usize == attrs_before(t, i)
+    let (start, len) = x.content_place();
+    let (attrs, bytes) = before(t, i);
+    kind_fits(x)
+        && x.first as usize == attrs
         && x.first as usize + usize::from(x.attrs) <= t.attrs()
-        && x.start as usize == bytes_before(t, i)
-        && x.start as usize + x.len as usize <= t.bytes()
+        && start == bytes
+        && start + len <= t.bytes()
         && attrs_ok(t, x)
 }
 
@@ -112,8 +114,8 @@ fn attr_formed<R: Records>(t: &R, j: usize) -> bool
     ensures { result ≡ attr_formed (R.table t.now) j }
 {
     let a = t.attr(j);
-    well_formed(t.part(a.start as usize, usize::from(a.name)))
-        && well_formed(t.part(a.start as usize + usize::from(a.name), usize::from(a.value)))
+    let (name, value) = (a.name_place(), a.value_place());
+    well_formed(t.part(name.0, name.1)) && well_formed(t.part(value.0, value.1))
 }
 
 fn attrs_formed<R: Records>(t: &R, x: NodeRecord) -> bool
@@ -127,14 +129,15 @@ pub fn formed_ok<R: Records>(t: &R, i: usize) -> bool
     ensures { result ≡ formed_ok (R.table t.now) i }
 {
     let x = t.node(i);
-    well_formed(t.part(x.start as usize, x.len as usize)) && attrs_formed(t, x)
+    let (start, len) = x.content_place();
+    well_formed(t.part(start, len)) && attrs_formed(t, x)
 }
 
 // The attributes and the bytes end with the last of n nodes.
 pub fn ends_ok<R: Records>(t: &R, n: usize) -> bool
     ensures { result ≡ ends_ok (R.table t.now) n }
 {
-    attrs_before(t, n) == t.attrs() && bytes_before(t, n) == t.bytes()
+    before(t, n) == (t.attrs(), t.bytes())
 }
 
 // The checks of the kind and the depth of a node.

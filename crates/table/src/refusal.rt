@@ -1,8 +1,11 @@
 // The numbers of sections and refusals.
-ghost use Rattle.std.specs.Prelude.{◌≡◌};
-ghost use Rattle.table.specs.Checks.{section_number, number, record_of, least, most, in_range};
+ghost use Rattle.std.specs.Prelude.{◌≡◌, ◌++◌, cond, codes, decimal, Some, None};
+ghost use Rattle.table.specs.declared.record.Check.TheVariants.{CountInRange};
+ghost use Rattle.table.specs.Checks.{section_number, number, record_of, least, most, in_range, refused};
 
 use crate::record::{Check, Section};
+use std::error::Error;
+use std::fmt;
 
 impl Section {
     // Sections count from 1.
@@ -43,6 +46,17 @@ impl Section {
     {
         (self.least()..=self.most()).contains(&n)
     }
+
+    // The check that a section may have n records.
+    pub fn check_count(self, n: usize) -> Result<(), Check>
+        ensures { refused result ≡ cond (in_range self n) None (Some (CountInRange self)) }
+    {
+        if self.in_range(n) {
+            Ok(())
+        } else {
+            Err(Check::CountInRange(self))
+        }
+    }
 }
 
 impl Check {
@@ -77,3 +91,14 @@ impl Check {
         }
     }
 }
+
+// The number and the record of a refusal.
+impl fmt::Display for Check {
+    ghost output = { λ c. Some (decimal (number c) ++ (codes " " ++ decimal (record_of c))) };
+
+    fn fmt<W: fmt::Write>(&self, f: &mut fmt::Formatter<W>) -> fmt::Result {
+        write!(f, "{} {}", self.number(), self.record())
+    }
+}
+
+impl Error for Check {}

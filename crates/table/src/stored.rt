@@ -30,7 +30,8 @@ fn attr_of<R: Records>(t: &R, x: NodeRecord, j: usize) -> AttrRecord
 }
 
 impl<'a, R: Records> Reader<'a, R> {
-    // Where a part of the node n lies among the bytes: its offset and its length.
+    // Where a part of the node n lies among the bytes: its offset and its length. By the methods of the records a walk over a
+    // page took a quarter longer.
     fn place(&self, n: usize, part: Part) -> (usize, usize)
         ensures { let t = R.table self.now.records.now in is_some (part_of (find (tree_of t) n) part) ≡ true → Lies t n part result.0 result.1 }
     {
@@ -52,7 +53,8 @@ impl<'a, R: Records> Reader<'a, R> {
     pub fn kind_of(&self, n: usize) -> NodeKind
         ensures { let t = R.table self.now.records.now in has (tree_of t) n ≡ true → Some result ≡ kind_of (find (tree_of t) n) }
     {
-        NodeKind::try_from(self.records.node(n).kind).unwrap_or(NodeKind::Element)
+        let x = self.records.node(n);
+        x.named_kind().unwrap_or(NodeKind::Element)
     }
 
     // How many attributes the node n has.

@@ -30,9 +30,7 @@ fn section(file: &[u8], s: Section, at: usize) -> Result<usize, Check>
         return Err(Check::CountPresent(s));
     }
     let n = u32_at(file, at) as usize;
-    if !s.in_range(n) {
-        return Err(Check::CountInRange(s));
-    }
+    s.check_count(n)?;
     if file.len() - at - 4 < record_size(s) * n {
         return Err(Check::RecordsPresent(s));
     }

@@ -29,5 +29,5 @@ pub returns : goal.returns
 returns g c h =
     let t = g.R.Records.table c.args.self.now.records.now in
     let a = accepted t c.args.self.now.accepted in
-    let is = c.unwrap_or.ensures ∙ (ap (λ o. result_unwrap_or o Element) c.try_from.ensures.kind ∙ (read (coded c.node.result.kind) _ ∙ with c.node.result.kind ∙ ap (λ x. kind_with x.kind) c.node.ensures)) in
+    let is = c.unwrap_or.ensures ∙ (ap (λ o. result_unwrap_or o Element) c.named_kind.ensures ∙ (read (coded c.node-x.result.kind) _ ∙ with c.node-x.result.kind ∙ ap (λ x. kind_with x.kind) c.node-x.ensures)) in
     ap Some is ∙ sym (ap kind_of (found t a c.args.n (inside t a c.args.n h)))
