@@ -27,11 +27,7 @@ fn is_joinable(reference: &[u8]) -> bool
 fn follows_http(rest: &[u8]) -> bool
     ensures { result ≡ (is_some (after (codes "://") rest.now) || is_some (after (codes "s://") rest.now)) }
 {
-    match rest {
-        [b':', b'/', b'/', ..] => true,
-        [b's', b':', b'/', b'/', ..] => true,
-        _ => false,
-    }
+    matches!(rest, [b':', b'/', b'/', ..] | [b's', b':', b'/', b'/', ..])
 }
 
 // Whether a value is left as it is: it begins with "//", "http://" or "https://".
