@@ -1,4 +1,5 @@
 pub mod Join
 pub mod Shaped
 pub mod Refusal
+pub mod Reason
 pub mod Answers

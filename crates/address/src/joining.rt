@@ -1,21 +1,40 @@
 // Joining a reference to a base, and the value as it is written.
-ghost use Rattle.std.specs.Prelude.{◌≡◌, ◌≤◌, true, ◌||◌, length, is_some, Err, codes, ◌≢◌};
+ghost use Rattle.std.specs.Prelude.{◌≡◌, ◌≤◌, true, ◌||◌, length, is_some, Some, Err, codes, ◌≢◌};
 ghost use Rattle.address.specs.declared.joining.NoJoin.TheVariants.{Room};
 ghost use Rattle.uri.specs.Bytes.{after};
 ghost use Rattle.uri.specs.Resolve.{resolved};
 ghost use Rattle.address.specs.Join.{joinable, joined, stays_as_is, written};
+ghost use Rattle.address.specs.Reason.{reason};
 ghost use Rattle.address.specs.Answers.{bytes_of, join_answer, join_out, Lawful};
 ghost use Rattle.uri.specs.Write.{placed, write_answer, Lawful as Resolved};
 
 use crate::base::{Base, is_visible};
+use std::error::Error;
+use std::fmt;
 use uri::{resolve, write_bytes};
 
 // Why nothing was written.
-#[derive(Clone, Copy)]
+#[derive(Clone, Copy, PartialEq, Eq, Debug)]
 pub enum NoJoin {
     Reference,
     Room,
 }
+
+impl fmt::Display for NoJoin {
+    ghost output = { λ e. Some (reason e) };
+
+    fn fmt<W: fmt::Write>(&self, f: &mut fmt::Formatter<W>) -> fmt::Result {
+        match self {
+            NoJoin::Reference => write!(
+                f,
+                "the reference is too long or has a byte that is not visible"
+            ),
+            NoJoin::Room => write!(f, "the buffer has no room for the result"),
+        }
+    }
+}
+
+impl Error for NoJoin {}
 
 fn is_joinable(reference: &[u8]) -> bool
     ensures { result ≡ joinable reference.now }
@@ -27,11 +46,7 @@ fn is_joinable(reference: &[u8]) -> bool
 fn follows_http(rest: &[u8]) -> bool
     ensures { result ≡ (is_some (after (codes "://") rest.now) || is_some (after (codes "s://") rest.now)) }
 {
-    match rest {
-        [b':', b'/', b'/', ..] => true,
-        [b's', b':', b'/', b'/', ..] => true,
-        _ => false,
-    }
+    matches!(rest, [b':', b'/', b'/', ..] | [b's', b':', b'/', b'/', ..])
 }
 
 // Whether a value is left as it is: it begins with "//", "http://" or "https://".

@@ -1,8 +1,11 @@
 // Why a base is refused, by number.
-ghost use Rattle.std.specs.Prelude.{◌≡◌};
+ghost use Rattle.std.specs.Prelude.{◌≡◌, ◌++◌, Some, codes, decimal};
 ghost use Rattle.address.specs.Refusal.{number, record_of};
 
-#[derive(Clone, Copy)]
+use std::error::Error;
+use std::fmt;
+
+#[derive(Clone, Copy, PartialEq, Eq, Debug)]
 pub enum BaseRefusal {
     NotABase,
 }
@@ -26,3 +29,13 @@ impl BaseRefusal {
         }
     }
 }
+
+impl fmt::Display for BaseRefusal {
+    ghost output = { λ e. Some (codes "refused " ++ decimal (number e) ++ codes " " ++ decimal (record_of e)) };
+
+    fn fmt<W: fmt::Write>(&self, f: &mut fmt::Formatter<W>) -> fmt::Result {
+        write!(f, "refused {} {}", self.number(), self.record())
+    }
+}
+
+impl Error for BaseRefusal {}

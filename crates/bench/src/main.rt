@@ -3,7 +3,7 @@
 #![tactic(auto)]
 
 use anyhow::anyhow;
-use page::{Page, Part};
+use page::{NodeKind, Page, Part};
 use pagefile::OpenedPage;
 use std::alloc::{AllocError, Global};
 use std::time::Instant;
@@ -19,12 +19,12 @@ fn push_u32(file: &mut Vec<u8>, n: u32) -> Result<(), AllocError> {
 
 fn push_node(
     file: &mut Vec<u8>,
-    kind: u8,
+    kind: NodeKind,
     depth: u8,
     start: u32,
     len: u32,
 ) -> Result<(), AllocError> {
-    file.extend_from_slice(&[kind, depth, 0, 0])?;
+    file.extend_from_slice(&[u8::from(kind), depth, 0, 0])?;
     push_u32(file, 0)?;
     push_u32(file, start)?;
     push_u32(file, len)
@@ -34,13 +34,13 @@ fn push_node(
 fn page_file(heap: Global, nodes: u32, depth: u8) -> Result<Vec<u8>, AllocError> {
     let mut file = Vec::new(heap);
     push_u32(&mut file, nodes)?;
-    push_node(&mut file, 0, 0, 0, 0)?;
+    push_node(&mut file, NodeKind::Document, 0, 0, 0)?;
     let mut start = 0u32;
     for d in 1..depth {
-        push_node(&mut file, 4, d, 0, 0)?;
+        push_node(&mut file, NodeKind::Element, d, 0, 0)?;
     }
     for _ in u32::from(depth)..nodes {
-        push_node(&mut file, 2, depth, start, TEXT)?;
+        push_node(&mut file, NodeKind::Text, depth, start, TEXT)?;
         start = start.saturating_add(TEXT);
     }
     push_u32(&mut file, 0)?;
@@ -98,7 +98,7 @@ fn open_once(file: &[u8]) -> Result<usize, Check> {
     Ok(page.bound())
 }
 
-// Nanoseconds of one opening.
+// Nanoseconds of one opening. As one function with `time_walk`, over a closure, its loop did not prove without an invariant of the closure.
 fn time_open(rt: &HostRuntime, file: &[u8], turns: u64) -> anyhow::Result<u128> {
     let start = Instant::now(rt)?;
     for _ in 0..turns {
@@ -123,11 +123,12 @@ fn time_walk(rt: &HostRuntime, file: &[u8], turns: u64) -> anyhow::Result<(u128,
 }
 
 // Times one page, and prints its line if asked to.
-fn time(rt: &HostRuntime, name: &str, nodes: u32, depth: u8, turns: u64) -> anyhow::Result<()> {
+fn time(rt: &HostRuntime, name: &str, nodes: u32, depth: u8, prints: bool) -> anyhow::Result<()> {
+    let turns = if prints { 2000 } else { 1 };
     let file = page_file(rt.alloc(), nodes, depth)?;
     let open = time_open(rt, file.as_slice(), turns)?;
     let (walk, sum) = time_walk(rt, file.as_slice(), turns)?;
-    if turns > 1 {
+    if prints {
         let bytes = file.len();
         println!(rt;
             "{name} {nodes} nodes, file of {bytes} bytes: open {open} ns, walk {walk} ns, sum {sum}"
@@ -137,10 +138,10 @@ fn time(rt: &HostRuntime, name: &str, nodes: u32, depth: u8, turns: u64) -> anyh
 }
 
 fn main(rt: HostRuntime) -> anyhow::Result<()> {
-    let turns = if env::args(&rt)?.count() > 1 { 2000 } else { 1 };
+    let prints = env::args(&rt)?.count() > 1;
     for nodes in [512, 1024, 2048, 4096] {
-        time(&rt, "flat", nodes, 1, turns)?;
-        time(&rt, "deep", nodes, 60, turns)?;
+        time(&rt, "flat", nodes, 1, prints)?;
+        time(&rt, "deep", nodes, 60, prints)?;
     }
     Ok(())
 }

@@ -10,7 +10,8 @@ use std::io::{BufRead, BufReader, Write};
 // No file of the list is longer.
 const MOST: usize = 300_000;
 
-// The value of a hexadecimal digit, lower-case only, where the library's `to_digit` takes both.
+// The value of a lower-case hexadecimal digit. The library's `to_digit` takes both cases, and `characters` has upper-case digits only, so each
+// program has its own.
 fn digit(b: u8) -> Option<u8> {
     match b {
         b'0'..=b'9' => Some(b - b'0'),

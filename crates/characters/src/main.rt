@@ -6,7 +6,8 @@ use std::io;
 use std::io::Read;
 use utf8::{count_chars, decode, well_formed};
 
-// The value of a hexadecimal digit, upper-case only, where the library's `to_digit` takes both.
+// The value of an upper-case hexadecimal digit. The library's `to_digit` takes both cases, and `cases` has lower-case digits only, so each
+// program has its own.
 fn digit(b: u8) -> Option<u8> {
     match b {
         b'0'..=b'9' => Some(b - b'0'),

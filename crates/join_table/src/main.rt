@@ -23,7 +23,7 @@ fn print_front(rt: &HostRuntime, out: &[u8], answer: Option<usize>, none: &[u8])
 fn print_line(rt: &HostRuntime, base: &mut Base, line: &[u8]) -> io::Result<()> {
     let (bytes, value) = at_tab(line);
     if let Err(e) = base.fill(bytes) {
-        return println!(rt; "refused {} {}", e.number(), e.record());
+        return println!(rt; "{e}");
     }
     let mut out = [0; 4049];
     let way = if stays(value) { "stays" } else { "joins" };

@@ -5,25 +5,27 @@
 use fraction::Fraction;
 use rounded::Rounded;
 use score::{Points, ScoreKind, first_greatest, top_candidate};
-use std::alloc::Global;
+use std::alloc::{AllocError, Global};
 use std::fmt;
+
+// The points of three numbers: h, t and l.
+fn point_of(triple: &[i64; 3]) -> anyhow::Result<Points> {
+    let [h, t, l] = *triple;
+    Ok(Points {
+        h: h.try_into()?,
+        t: t.try_into()?,
+        l: l.try_into()?,
+    })
+}
 
 // The points on a line. Numbers at its end that make no three are passed over.
 fn points_of(heap: Global, line: &str) -> anyhow::Result<Vec<Points>> {
-    let mut numbers: Vec<i64> = Vec::new(heap);
-    for word in line.split_whitespace() {
-        numbers.push(word.parse()?)?;
-    }
-    let mut points = Vec::new(heap);
+    let numbers: Vec<i64> = line
+        .split_whitespace()
+        .map(|word| -> anyhow::Result<i64> { Ok(word.parse()?) })
+        .try_collect(heap)?;
     let (triples, _) = numbers.as_chunks::<3>();
-    for &[h, t, l] in triples {
-        points.push(Points {
-            h: h.try_into()?,
-            t: t.try_into()?,
-            l: l.try_into()?,
-        })?;
-    }
-    Ok(points)
+    triples.iter().map(point_of).try_collect(heap)
 }
 
 // An index, or `-`.
@@ -44,20 +46,17 @@ fn bits_of(p: Points) -> u32 {
     Rounded::settle(p).value.to_bits()
 }
 
+// The points settled at a kind.
+fn settle_all<K: ScoreKind>(heap: Global, points: &[Points]) -> Result<Vec<K>, AllocError> {
+    points.iter().map(|p| K::settle(*p)).collect(heap)
+}
+
 fn show(rt: &HostRuntime, points: &[Points]) -> anyhow::Result<()> {
     for p in points {
         print!(rt; "{:08x} ", bits_of(*p))?;
     }
-    let rounded: Vec<Rounded> = points
-        .iter()
-        .copied()
-        .map(Rounded::settle)
-        .collect(rt.alloc())?;
-    let fractions: Vec<Fraction> = points
-        .iter()
-        .copied()
-        .map(Fraction::settle)
-        .collect(rt.alloc())?;
+    let rounded = settle_all::<Rounded>(rt.alloc(), points)?;
+    let fractions = settle_all::<Fraction>(rt.alloc(), points)?;
     let a = Index(first_greatest(&rounded));
     let b = Index(first_greatest(&fractions));
     let c = Index(top_candidate(&rounded));

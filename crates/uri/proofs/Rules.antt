@@ -5,9 +5,7 @@ use Rattle.std.proofs.lemmas.Bool.{eqb-true}
 use Rattle.std.specs.Str.{bytes_eq}
 use Rattle.uri.specs.Bytes.{after}
 use Rattle.uri.specs.Dots.{turn, on_prefix, without_last}
-use Rattle.uri.specs.Turn.{rule_of, effect, least}
-use Rattle.uri.specs.declared.dots.Rule.{Rule}
-use Rattle.uri.specs.declared.dots.Rule.TheVariants.{DotDotPrefix, DotPrefix, Dot, LastDot, Parent, LastParent, OnlyDots, Segment}
+use Rattle.uri.specs.Turn.{Rule, dot_dot_prefix, dot_prefix, dot, last_dot, parent, last_parent, only_dots, segment, rule_of, effect, least}
 
 pub after_is : (p bs more : List ℕ) → after p bs ≡ Some more → bs ≡ p ++ more
 after_is [] bs more e = cc
@@ -45,13 +43,13 @@ module _ {A : Type 0} (P : A → Type 0) (input : List ℕ) where
 pub rule-least : (input : List ℕ) → least (rule_of input) ≤ length input
 rule-least input =
     let P : Rule → Type 0 = λ r. least r ≤ length input in
-    by-prefix P input (codes "../") DotDotPrefix _ (λ more e. subst (λ z. 3 ≤ length z) (sym e) (omega arith))
-    (by-prefix P input (codes "./") DotPrefix _ (λ more e. subst (λ z. 2 ≤ length z) (sym e) (omega arith))
-    (by-prefix P input (codes "/./") Dot _ (λ more e. subst (λ z. 3 ≤ length z) (sym e) (omega arith))
-    (by_whole P input (codes "/.") LastDot _ (λ e. subst (λ z. 2 ≤ length z) (sym e) (omega arith)) (λ _.
-    by-prefix P input (codes "/../") Parent _ (λ more e. subst (λ z. 4 ≤ length z) (sym e) (omega arith))
-    (by_whole P input (codes "/..") LastParent _ (λ e. subst (λ z. 3 ≤ length z) (sym e) (omega arith)) (λ _.
-    by-either P input (codes ".") (codes "..") OnlyDots Segment (λ e. subst (λ z. 1 ≤ length z) (sym e) (omega arith)) (λ e. subst (λ z. 1 ≤ length z) (sym e) (omega arith)) (λ _ _.
+    by-prefix P input (codes "../") dot_dot_prefix _ (λ more e. subst (λ z. 3 ≤ length z) (sym e) (omega arith))
+    (by-prefix P input (codes "./") dot_prefix _ (λ more e. subst (λ z. 2 ≤ length z) (sym e) (omega arith))
+    (by-prefix P input (codes "/./") dot _ (λ more e. subst (λ z. 3 ≤ length z) (sym e) (omega arith))
+    (by_whole P input (codes "/.") last_dot _ (λ e. subst (λ z. 2 ≤ length z) (sym e) (omega arith)) (λ _.
+    by-prefix P input (codes "/../") parent _ (λ more e. subst (λ z. 4 ≤ length z) (sym e) (omega arith))
+    (by_whole P input (codes "/..") last_parent _ (λ e. subst (λ z. 3 ≤ length z) (sym e) (omega arith)) (λ _.
+    by-either P input (codes ".") (codes "..") only_dots segment (λ e. subst (λ z. 1 ≤ length z) (sym e) (omega arith)) (λ e. subst (λ z. 1 ≤ length z) (sym e) (omega arith)) (λ _ _.
     omega arith)))))))
 
 module _ (input output : List ℕ) where
@@ -73,10 +71,10 @@ module _ (input output : List ℕ) where
   pub turn_is : turn input output ≡ effect (rule_of input) input output
   unfolding turn
   turn_is =
-      on-prefix (codes "../") _ DotDotPrefix _ _ (λ more e. ap (λ z. (drop 3 z, output)) (sym e))
-      (on-prefix (codes "./") _ DotPrefix _ _ (λ more e. ap (λ z. (drop 2 z, output)) (sym e))
-      (on-prefix (codes "/./") _ Dot _ _ (λ more e. ap (λ z. (drop 2 z, output)) (sym e))
-      (on_test (bytes_eq input (codes "/.")) _ LastDot _ _ refl
-      (on-prefix (codes "/../") _ Parent _ _ (λ more e. ap (λ z. (drop 3 z, without_last output)) (sym e))
-      (on_test (bytes_eq input (codes "/..")) _ LastParent _ _ refl
-      (on_test (bytes_eq input (codes ".") || bytes_eq input (codes "..")) _ OnlyDots Segment _ refl refl))))))
+      on-prefix (codes "../") _ dot_dot_prefix _ _ (λ more e. ap (λ z. (drop 3 z, output)) (sym e))
+      (on-prefix (codes "./") _ dot_prefix _ _ (λ more e. ap (λ z. (drop 2 z, output)) (sym e))
+      (on-prefix (codes "/./") _ dot _ _ (λ more e. ap (λ z. (drop 2 z, output)) (sym e))
+      (on_test (bytes_eq input (codes "/.")) _ last_dot _ _ refl
+      (on-prefix (codes "/../") _ parent _ _ (λ more e. ap (λ z. (drop 3 z, without_last output)) (sym e))
+      (on_test (bytes_eq input (codes "/..")) _ last_parent _ _ refl
+      (on_test (bytes_eq input (codes ".") || bytes_eq input (codes "..")) _ only_dots segment _ refl refl))))))

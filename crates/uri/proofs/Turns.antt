@@ -2,9 +2,7 @@
 use Rattle.std.proofs.Common.{◌≡◌, ℕ, zero, suc, ◌<◌, ◌≤◌, List, [], ◌∷◌, length, codes, sym, refl, ap, ◌∙◌, subst, arith}
 use Rattle.std.proofs.lemmas.List.{length-drop}
 use Rattle.uri.specs.Dots.{turn, turns}
-use Rattle.uri.specs.Turn.{rule_of, effect, least}
-use Rattle.uri.specs.declared.dots.Rule.{Rule}
-use Rattle.uri.specs.declared.dots.Rule.TheVariants.{DotDotPrefix, DotPrefix, Dot, LastDot, Parent, LastParent, OnlyDots, Segment}
+use Rattle.uri.specs.Turn.{Rule, dot_dot_prefix, dot_prefix, dot, last_dot, parent, last_parent, only_dots, segment, rule_of, effect, least}
 use Rattle.uri.proofs.Rules.{turn_is, rule-least}
 use Rattle.uri.proofs.Fronts.{length-parts}
 
@@ -16,14 +14,14 @@ turned input output left out rule found e f =
 
 -- a rule takes a byte or more from the input
 shorter : (rule : Rule) (b : ℕ) (bs output : List ℕ) → least rule ≤ suc (length bs) → length (effect rule (b ∷ bs) output).0 ≤ length bs
-shorter DotDotPrefix b bs output l = omega (arith, length-drop 2 bs)
-shorter DotPrefix b bs output l = omega (arith, length-drop 1 bs)
-shorter Dot b bs output l = omega (arith, length-drop 1 bs)
-shorter LastDot b bs output l = omega arith
-shorter Parent b bs output l = omega (arith, length-drop 2 bs)
-shorter LastParent b bs output l = omega arith
-shorter OnlyDots b bs output l = omega arith
-shorter Segment b bs output l = omega (arith, length-parts (codes "/") bs)
+shorter dot_dot_prefix b bs output l = omega (arith, length-drop 2 bs)
+shorter dot_prefix b bs output l = omega (arith, length-drop 1 bs)
+shorter dot b bs output l = omega (arith, length-drop 1 bs)
+shorter last_dot b bs output l = omega arith
+shorter parent b bs output l = omega (arith, length-drop 2 bs)
+shorter last_parent b bs output l = omega arith
+shorter only_dots b bs output l = omega arith
+shorter segment b bs output l = omega (arith, length-parts (codes "/") bs)
 
 pub turn-shorter : (b : ℕ) (bs output : List ℕ) → length (turn (b ∷ bs) output).0 ≤ length bs
 turn-shorter b bs output =

@@ -22,7 +22,8 @@ fn put_closed(out: &mut Buffer, part: Option<&[u8]>, mark: &[u8])
     }
 }
 
-// Appends a component behind its mark, where `put_closed` has the mark behind the component.
+// Appends a component behind its mark, where `put_closed` has the mark behind the component. One function for both would take an empty mark
+// at each call.
 fn put_led(out: &mut Buffer, mark: &[u8], part: Option<&[u8]>)
     requires { HasRoom out.old (led mark.now (option_map (λ x. x.now) part)) }
     ensures { out.new.items ≡ out.old.items ++ led mark.now (option_map (λ x. x.now) part.entry) }

@@ -2,38 +2,9 @@
 ghost use Rattle.std.specs.Prelude.{◌≡◌, ◌<◌, ◌++◌, length, IfSome};
 ghost use Rattle.uri.specs.Write.{HasRoom};
 ghost use Rattle.uri.specs.Dots.{rightmost, turn, remove_dots, without_last, first_segment, behind_segment};
-ghost use Rattle.uri.specs.Turn.{rule_of};
 
 use crate::buffer::{Buffer, put};
 use crate::parse::cut;
-
-// The rules A to E, by what stands at the front of the input.
-enum Rule {
-    DotDotPrefix,
-    DotPrefix,
-    Dot,
-    LastDot,
-    Parent,
-    LastParent,
-    OnlyDots,
-    Segment,
-}
-
-// The first rule that applies to the input.
-fn first_rule(input: &[u8]) -> Rule
-    ensures { result ≡ rule_of input.now }
-{
-    match input {
-        [b'.', b'.', b'/', ..] => Rule::DotDotPrefix,
-        [b'.', b'/', ..] => Rule::DotPrefix,
-        [b'/', b'.', b'/', ..] => Rule::Dot,
-        [b'/', b'.'] => Rule::LastDot,
-        [b'/', b'.', b'.', b'/', ..] => Rule::Parent,
-        [b'/', b'.', b'.'] => Rule::LastParent,
-        [b'.'] | [b'.', b'.'] => Rule::OnlyDots,
-        _ => Rule::Segment,
-    }
-}
 
 // The index of the right-most slash.
 pub(crate) fn last_slash(bytes: &[u8]) -> Option<usize>
@@ -68,21 +39,20 @@ fn take_turn<'a>(input: &'a [u8], output: &mut Buffer) -> &'a [u8]
     ensures input { result.now ≡ (turn input.now output.old.items).0 }
     ensures output { output.new.items ≡ (turn input.now output.old.items).1 }
 {
-    match first_rule(input) {
-        Rule::DotDotPrefix => &input[3..],
-        Rule::DotPrefix => &input[2..],
-        Rule::Dot => &input[2..],
-        Rule::LastDot => b"/",
-        Rule::Parent => {
+    match input {
+        [b'.', b'.', b'/', rest @ ..] | [b'.', b'/', rest @ ..] => rest,
+        [b'/', b'.', b'/', ..] => &input[2..],
+        [b'/', b'.'] => b"/",
+        [b'/', b'.', b'.', b'/', ..] => {
             drop_last(output);
             &input[3..]
         }
-        Rule::LastParent => {
+        [b'/', b'.', b'.'] => {
             drop_last(output);
             b"/"
         }
-        Rule::OnlyDots => b"",
-        Rule::Segment => {
+        [b'.'] | [b'.', b'.'] => b"",
+        _ => {
             let (segment, behind) = cut_segment(input);
             put(output, segment);
             behind

@@ -12,12 +12,9 @@ pub fn write_bytes(bytes: &[u8], out: &mut [u8]) -> Option<usize>
     ensures answer { result ≡ write_answer bytes.now (length out.old) }
     ensures out { out.new ≡ placed bytes.now out.old }
 {
-    let n = bytes.len();
-    if n > out.len() {
-        return None;
-    }
-    out[..n].copy_from_slice(bytes);
-    Some(n)
+    let (front, _) = out.split_at_mut_checked(bytes.len())?;
+    front.copy_from_slice(bytes);
+    Some(bytes.len())
 }
 
 // Resolves the reference on the base, section 5.2, and writes the target to the buffer's front; answers its length.
