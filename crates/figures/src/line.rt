@@ -55,7 +55,7 @@ fn push_name<P: Page>(heap: Global, p: &P, n: usize, out: &mut Vec<u8>) -> Resul
     let number = number_text(heap, n)?;
     out.extend_from_slice(number.as_bytes())?;
     let name = name_text(heap, p, n)?;
-    push_quoted(out, name.as_bytes().iter().copied())?;
+    push_quoted(out, name.as_bytes())?;
     Ok(())
 }
 

@@ -2,11 +2,12 @@
 #![tactic(auto)]
 
 use figures::points;
-use render::answer_input;
+use render::read_file;
 use std::io;
+use std::io::Write;
 
 fn main(rt: HostRuntime) -> io::Result<()> {
-    answer_input(rt.alloc(), rt.stdin(), &mut rt.stdout(), |file| {
-        points(rt.alloc(), file)
-    })
+    let file = read_file(rt.alloc(), rt.stdin())?;
+    let text = points(rt.alloc(), file.as_slice())?;
+    rt.stdout().write_all(text.as_slice())
 }

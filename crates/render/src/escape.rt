@@ -27,8 +27,8 @@ pub fn push_escaped(out: &mut Vec<u8>, b: u8) -> Result<(), AllocError>
     }
 }
 
-// Appends bytes in quotes.
-pub fn push_quoted<I: Iterator<Item = u8> + Drop>(
+// Appends the bytes of an iterator in quotes.
+pub(crate) fn push_quoted_from<I: Iterator<Item = u8> + Drop>(
     out: &mut Vec<u8>,
     bytes: I,
 ) -> Result<(), AllocError>
@@ -42,4 +42,11 @@ pub fn push_quoted<I: Iterator<Item = u8> + Drop>(
     }
     out.push(b'"')?;
     Ok(())
+}
+
+// Appends bytes in quotes.
+pub fn push_quoted(out: &mut Vec<u8>, bytes: &[u8]) -> Result<(), AllocError>
+    ensures { OnOk result (out.new.items ≡ out.old.items ++ quoted bytes.now) }
+{
+    push_quoted_from(out, bytes.iter().copied())
 }

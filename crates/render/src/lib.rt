@@ -1,12 +1,12 @@
 // The text of a page.
 #![tactic(auto)]
 
-mod answer;
 mod escape;
+mod input;
 mod line;
 mod lines;
 mod text;
 
-pub use answer::answer_input;
 pub use escape::{push_escaped, push_quoted};
+pub use input::read_file;
 pub use text::{outline, refusal_text};

@@ -4,7 +4,7 @@ ghost use Rattle.page.specs.Forest.{attrs_of, part_of};
 ghost use Rattle.render.specs.Render.{quoted, word, attr_text, attrs_text};
 ghost use Rattle.render.specs.Found.{part_bytes, content_in, line_of};
 
-use crate::escape::push_quoted;
+use crate::escape::push_quoted_from;
 use page::{Node, NodeKind, Page, Part};
 use std::alloc::AllocError;
 
@@ -37,7 +37,7 @@ fn push_part<P: Page>(node: &Node<'_, P>, part: Part, out: &mut Vec<u8>) -> Resu
     let p = node.page();
     let n = node.number();
     let bytes = (0..p.len_of(n, part)).map(|i| p.byte_of(n, part, i));
-    push_quoted(out, bytes)
+    push_quoted_from(out, bytes)
 }
 
 // The content of all but the document: a space and the quoted bytes.

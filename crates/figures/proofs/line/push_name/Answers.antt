@@ -1,12 +1,9 @@
 -- The number, and then the name.
 use Rattle.std.proofs.Common.{◌++◌, vec_items, codes, decimal, ap, ◌∙◌, append_assoc}
-use Rattle.std.proofs.lemmas.Iterator.{YieldsList-from_slice}
-use Rattle.std.proofs.lemmas.Iterator.Consumers.{YieldsList-from_copied}
 use Rattle.page.specs.declared.kind.Part.TheVariants.{Content}
 use Rattle.render.specs.Render.{quoted}
 use Rattle.text.specs.Held.{held}
 use Rattle.figures.specs.Points.{lowered_name}
-use Rattle.render.proofs.Mapped.{all-yielded}
 use Rattle.figures.proofs.line.push_name.Goals as goal
 
 pub returns : goal.returns
@@ -16,6 +13,4 @@ returns g c =
     let name = c.as_bytes-2.ensures.value ∙ c.in_ok-name.ensures in
     let number = c.as_bytes.ensures.value ∙ c.in_ok-number.ensures in
     let one = c.in_ok-extend_from_slice.ensures.items ∙ ap (λ l. E ++ l) number in
-    let w = c.in_ok-push_quoted.ensures in
-    let taken = all-yielded w.0 c.as_bytes-2.result.now w.1 (YieldsList-from_copied (YieldsList-from_slice c.as_bytes-2.result.now cc)) in
-    w.2 ∙ ((λ i. one i ++ quoted ((taken ∙ name) i)) ∙ append_assoc E N (quoted (lowered_name (held (g.P.Page.tree c.args.p.now) c.args.n Content))))
+    c.in_ok-push_quoted.ensures ∙ ((λ i. one i ++ quoted (name i)) ∙ append_assoc E N (quoted (lowered_name (held (g.P.Page.tree c.args.p.now) c.args.n Content))))

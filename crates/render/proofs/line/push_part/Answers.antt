@@ -14,8 +14,8 @@ returns g c =
     let same : o ≡ part_of c.args.node.now c.args.part = ap (λ f. part_of f c.args.part) (c.page-p.ensures c.number-n.result (sym c.number-n.ensures)) in
     let len = c.len_of.ensures (ap is_some same ∙ c.requires) in
     let long : c.len_of.result ≡ length (bytes_in o) = length-read o c.len_of.result len in
-    on_ok_weaker c.push_quoted.result (λ w. w.2 ∙ ap (λ xs. vec_items c.args.out.now ++ quoted xs) (all-given _ (bytes_in o) c.map-bytes.result.f
+    on_ok_weaker c.push_quoted_from.result (λ w. w.2 ∙ ap (λ xs. vec_items c.args.out.now ++ quoted xs) (all-given _ (bytes_in o) c.map-bytes.result.f
     (λ x r q l k.
     let here : is_some (byte_in o x) ≡ true = byte-within o c.len_of.result x len (omega (arith, l, long)) in
     (search rules, byte-read o x r (search rules)))
-    c.map-bytes.result w.0 (search rules) (ap (λ s. s.end) c.map-bytes.ensures.source ∙ long) (search rules) w.1 ∙ ap bytes_in same)) c.push_quoted.ensures
+    c.map-bytes.result w.0 (search rules) (ap (λ s. s.end) c.map-bytes.ensures.source ∙ long) (search rules) w.1 ∙ ap bytes_in same)) c.push_quoted_from.ensures

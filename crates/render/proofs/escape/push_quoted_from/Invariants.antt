@@ -1,7 +1,7 @@
 -- What is written is what was yielded.
 use Rattle.std.proofs.Common.{◌≡◌, ◌++◌, vec_items}
 use Rattle.render.specs.Render.{escaped}
-use Rattle.render.proofs.escape.push_quoted.Given as goal
+use Rattle.render.proofs.escape.push_quoted_from.Given as goal
 
 abbrev pub invariant-loop-b : goal.invariant-loop-b
 invariant-loop-b g l =
