@@ -47,12 +47,30 @@ fn first_width(bytes: &[u8]) -> Option<usize>
     are_tails(&bytes[2..w]).then_some(w)
 }
 
+// Below so many bytes the library's test, which looks for runs of ASCII, costs more than one character at a time.
+const SHORT: usize = 8;
+
+// Whether the bytes are characters, one behind the other.
+fn are_chars(bytes: &[u8]) -> bool
+    ensures { result ≡ well_formed bytes.now }
+{
+    let mut rest = bytes;
+    while let Some(w) = first_width(rest) {
+        rest = &rest[w..];
+    }
+    rest.is_empty()
+}
+
 // Whether the bytes are well-formed UTF-8.
 pub fn well_formed(bytes: &[u8]) -> bool
     ensures table { result ≡ well_formed bytes.now }
     ensures utf8 { Decides result (IsUtf8 bytes.now) }
 {
-    str::from_utf8(bytes).is_ok()
+    if bytes.len() < SHORT {
+        are_chars(bytes)
+    } else {
+        str::from_utf8(bytes).is_ok()
+    }
 }
 
 // The bits so far, and the low six of one more byte.
