@@ -1,7 +1,8 @@
 -- The first attribute of a name.
-use Rattle.std.proofs.Common.{◌≡◌, ℕ, zero, suc, ◌+◌, ◌<◌, Bool, true, false, cond, ◌⊎◌, List, [], ◌∷◌, length, get_or, is_some, Some, None, Option, sym, refl, ap, ◌∙◌, inl, inr, arith}
+use Rattle.std.proofs.Common.{◌≡◌, ℕ, zero, suc, ◌+◌, ◌<◌, ◌≤◌, true, false, cond, ◌⊎◌, List, [], ◌∷◌, length, get_or, drop, is_some, Some, None, Option, sym, refl, ap, ◌∙◌, inl, inr, arith}
 use Rattle.std.specs.Option.{option_map, unwrap_or}
-use Rattle.std.specs.List.{slice_get, find, range_with_len}
+use Rattle.std.specs.List.{slice_get}
+use Rattle.std.proofs.lemmas.List.{at_drop_more, at_drop_all}
 use Rattle.std.proofs.lemmas.Option.{slice_get-get_or}
 use Rattle.std.proofs.lemmas.Bool.{cond-true, cond-false, cases_Bool, both_ways}
 use Rattle.page.specs.declared.kind.Part.TheVariants.{Name, Value}
@@ -11,35 +12,43 @@ use Rattle.names.specs.Names.{same}
 use Rattle.names.specs.Attrs.{first_index, value_of, First}
 use Rattle.names.proofs.Sames.{same_true, same_self}
 
--- the names that attributes hold, and how many there are
-name-at : (f : Forest) (j : ℕ) → j < length (attrs_of f) → bytes_in (part_of f (Name j)) ≡ (get_or (attrs_of f) j ([], [])).0
+-- the parts that attributes hold
+pub name-at : (f : Forest) (j : ℕ) → j < length (attrs_of f) → (is_some (part_of f (Name j)) ≡ true) × (bytes_in (part_of f (Name j)) ≡ (get_or (attrs_of f) j ([], [])).0)
 name-at none j h = absurd (omega arith)
-name-at (node m k c a kids rest) j h = ap (λ o. bytes_in (name_in o)) (slice_get-get_or a j ([], []) h)
+name-at (node m k c a kids rest) j h = let e = slice_get-get_or a j ([], []) h in (ap (λ o. is_some (name_in o)) e, ap (λ o. bytes_in (name_in o)) e)
 
 pub count-is : (f : Forest) → unwrap_or (count_of f) 0 ≡ length (attrs_of f)
 count-is none = refl
 count-is (node m k c a kids rest) = refl
 
 -- an index counted from the place j
-abbrev from : ℕ → Option ℕ → Option ℕ
+abbrev pub from : ℕ → Option ℕ → Option ℕ
 from j o = option_map (λ k. j + k) o
 
--- a search by places
-find-index : (a : List (List ℕ × List ℕ)) (w : List ℕ) (t : ℕ → Bool) (j : ℕ) → ((k : ℕ) → k < length a → t (j + k) ≡ same w (get_or a k ([], [])).0) → find t (range_with_len j (length a)) ≡ from j (first_index a w)
-find-index [] w t j h = refl
-find-index (x ∷ a) w t j h = go (t j) (same w x.0) (ap t (omega arith) ∙ h 0 (omega arith)) (find t (range_with_len (j + 1) (length a))) (first_index a w) (find-index a w t (j + 1) (λ k l. ap t (omega arith) ∙ h (suc k) (omega arith)))
-  where
-    go : (b d : Bool) → b ≡ d → (r o : Option ℕ) → r ≡ from (j + 1) o → cond b (Some j) r ≡ from j (cond d (Some 0) (option_map suc o))
-    go b true e r o i = ap (λ b. cond b (Some j) r) e ∙ ap Some (omega arith)
-    go b false e r None i = ap (λ b. cond b (Some j) r) e ∙ i
-    go b false e r (Some k) i = ap (λ b. cond b (Some j) r) e ∙ (i ∙ ap Some (omega arith))
+from_zero : (o : Option ℕ) → from 0 o ≡ o
+from_zero None = refl
+from_zero (Some k) = ap Some (omega arith)
 
-pub first-found : (f : Forest) (w : List ℕ) → find (λ j. same w (bytes_in (part_of f (Name j)))) (range_with_len 0 (length (attrs_of f))) ≡ first_index (attrs_of f) w
-first-found f w = find-index (attrs_of f) w _ 0 (λ k h. ap (same w) (name-at f (0 + k) (omega arith) ∙ ap (λ k. (get_or (attrs_of f) k ([], [])).0) (omega arith))) ∙ zeros (first_index (attrs_of f) w)
-  where
-    zeros : (o : Option ℕ) → option_map (λ k. 0 + k) o ≡ o
-    zeros None = refl
-    zeros (Some k) = ap Some (omega arith)
+from_suc : (j : ℕ) (o : Option ℕ) → from j (option_map suc o) ≡ from (j + 1) o
+from_suc j None = refl
+from_suc j (Some k) = ap Some (omega arith)
+
+-- a search by places
+pub search-begin : (a : List (List ℕ × List ℕ)) (w : List ℕ) → from 0 (first_index a w) ≡ first_index a w
+search-begin a w = from_zero (first_index a w)
+
+module _ (a : List (List ℕ × List ℕ)) (w : List ℕ) (j : ℕ) (f : from j (first_index (drop j a) w) ≡ first_index a w) where
+  at-attr : j < length a → first_index (drop j a) w ≡ cond (same w (get_or a j ([], [])).0) (Some 0) (option_map suc (first_index (drop (j + 1) a) w))
+  at-attr h = at_drop_more (λ l. first_index l w) a j ([], []) h
+
+  pub search-on : j < length a → same w (get_or a j ([], [])).0 ≡ false → from (j + 1) (first_index (drop (j + 1) a) w) ≡ first_index a w
+  search-on h e = sym (from_suc j (first_index (drop (j + 1) a) w)) ∙ (sym (ap (from j) (at-attr h ∙ cond-false _ _ _ e)) ∙ f)
+
+  pub search-here : j < length a → same w (get_or a j ([], [])).0 ≡ true → Some j ≡ first_index a w
+  search-here h e = let z : j ≡ j + 0 = omega arith in ap Some z ∙ (sym (ap (from j) (at-attr h ∙ cond-true _ _ _ e)) ∙ f)
+
+  pub search-end : length a ≤ j → None ≡ first_index a w
+  search-end h = sym (ap (from j) (at_drop_all (λ l. first_index l w) a j h)) ∙ f
 
 -- the index is that of the first
 pub first : (a : List (List ℕ × List ℕ)) (w : List ℕ) → First a w (first_index a w)

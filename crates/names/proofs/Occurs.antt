@@ -47,6 +47,18 @@ stands-first (c ∷ w) v at false f g = go (cases_lt at (length v))
         sym (ap (begins (c ∷ w)) (drop_more v at 0 l) ∙ and_left _ _ (ne_eqb c (get_or v at 0) (λ k. both_ways false refl (f (omega arith) (e ∙ ap Some (sym k))))))
     go (inr l) = sym (ap (begins (c ∷ w)) (drop_all at v l))
 
+-- where no byte stands, only a word without bytes does
+pub begins-gone : (w v : List ℕ) (at : ℕ) (r : Bool) → slice_get v at ≡ None → (length w ≡ 0 → r ≡ true) → ((length w ≡ 0 → ⊥) → r ≡ false) → r ≡ begins w (drop at v)
+begins-gone w v at r e f g = go (cases_lt at (length v))
+  where
+    gone : (w : List ℕ) → (length w ≡ 0 → r ≡ true) → ((length w ≡ 0 → ⊥) → r ≡ false) → r ≡ begins w []
+    gone [] f g = f refl
+    gone (c ∷ w) f g = g (λ z. omega arith)
+
+    go : (at < length v) ⊎ (length v ≤ at) → r ≡ begins w (drop at v)
+    go (inl l) = absurd (let k = sym (slice_get-get_or v at 0 l) ∙ e in let z : ◌≡◌ {A = ℕ} 0 1 = cc in omega arith)
+    go (inr l) = gone w f g ∙ sym (ap (begins w) (drop_all at v l))
+
 -- a search of the words
 pub some-any : (ws : List (Bor (List ℕ))) (v : List ℕ) → list_any (λ w. begins w.now v) ws ≡ some_begins (map (λ x. x.now) ws) v
 some-any [] v = refl

@@ -1,12 +1,12 @@
 -- Texts that are the same, place by place.
-use Rattle.std.proofs.Common.{◌≡◌, ℕ, suc, ◌<◌, Bool, true, false, cond, ◌&&◌, eqb, List, [], ◌∷◌, map, length, drop, Some, None, Option, refl, ap, arith, Bor}
+use Rattle.std.proofs.Common.{◌≡◌, ℕ, suc, ◌+◌, ◌<◌, ◌≤◌, Bool, true, false, cond, ◌&&◌, eqb, List, [], ◌∷◌, map, length, get_or, drop, Some, None, Option, sym, refl, ap, ◌∙◌, arith, Bor}
 use Rattle.std.specs.List.{find}
-use Rattle.std.proofs.lemmas.List.{drop_more}
-use Rattle.std.proofs.lemmas.Bool.{eq-eqb, eqb-true, and_parts, and_from, both_ways}
+use Rattle.std.proofs.lemmas.List.{drop_more, drop_all}
+use Rattle.std.proofs.lemmas.Bool.{eq-eqb, ne_eqb, eqb-true, and_parts, and_from, and_left, both_ways}
 use Rattle.utf8.specs.Decode.{scalars_of}
 use Rattle.page.specs.declared.kind.NodeKind.TheVariants.{Element}
 use Rattle.page.specs.declared.kind.Part.TheVariants.{Content}
-use Rattle.page.specs.Forest.{Forest, none, node, kind_of, part_of}
+use Rattle.page.specs.Forest.{Forest, none, node, kind_of, part_of, length_in}
 use Rattle.text.specs.Held.{bytes_in}
 use Rattle.names.specs.declared.tag.Tag.{Tag}
 use Rattle.names.specs.declared.tag.Tag.TheVariants.{Other}
@@ -40,6 +40,25 @@ same-begins [] [] h = refl
 same-begins [] (d ∷ ds) h = absurd (omega arith)
 same-begins (c ∷ cs) [] h = absurd (omega arith)
 same-begins (c ∷ cs) (d ∷ ds) h = ap (λ b. eqb c d && b) (same-begins cs ds (omega arith))
+
+-- a length that was answered is that of the bytes
+pub length-is : (o : Option (List ℕ)) (r : ℕ) → Some r ≡ length_in o → r ≡ length (bytes_in o)
+length-is None r e = absurd (let z : ◌≡◌ {A = ℕ} 0 1 = cc in omega arith)
+length-is (Some bs) r e = cc
+
+-- a comparison by places: on, off and at the end
+module _ (w v : List ℕ) (k : ℕ) where
+  step : k < length w → k < length v → same (drop k w) (drop k v) ≡ (eqb (get_or w k 0) (get_or v k 0) && same (drop (k + 1) w) (drop (k + 1) v))
+  step h j = λ i. same (drop_more w k 0 h i) (drop_more v k 0 j i)
+
+  pub same-on : k < length w → k < length v → get_or v k 0 ≡ get_or w k 0 → same (drop k w) (drop k v) ≡ same w v → same (drop (k + 1) w) (drop (k + 1) v) ≡ same w v
+  same-on h j e f = ap (λ b. b && same (drop (k + 1) w) (drop (k + 1) v)) (sym (eq-eqb _ _ (sym e))) ∙ (sym (step h j) ∙ f)
+
+  pub same-off : k < length w → k < length v → (get_or v k 0 ≡ get_or w k 0 → ⊥) → same (drop k w) (drop k v) ≡ same w v → false ≡ same w v
+  same-off h j e f = sym (and_left _ _ (ne_eqb _ _ (λ x. e (sym x)))) ∙ (sym (step h j) ∙ f)
+
+  pub same_end : length w ≤ k → length v ≤ k → same (drop k w) (drop k v) ≡ same w v → true ≡ same w v
+  same_end h j f = sym (λ i. same (drop_all k w h i) (drop_all k v j i)) ∙ f
 
 -- the lowered characters of bytes
 abbrev pub letters : List ℕ → List ℕ

@@ -1,5 +1,5 @@
 // Words sought in a value.
-ghost use Rattle.std.specs.Prelude.{◌≡◌, ℕ, ◌&&◌, List, map, drop, Decides};
+ghost use Rattle.std.specs.Prelude.{◌≡◌, ℕ, ◌&&◌, List, Some, map, drop, Decides};
 ghost use Rattle.std.specs.List.{slice_get};
 ghost use Rattle.names.specs.Words.{begins, some_begins, has_word, SomeWord};
 
@@ -87,21 +87,24 @@ pub(crate) fn word_at<P: Page>(part: &PartOf<'_, P>, at: usize, word: &[u8]) -> 
             .all(|(i, b)| part.get(i) == Some(*b))
 }
 
-// Whether a word may stand where this byte does, or where no byte does.
-fn may_begin(word: &[u8], byte: Option<u8>) -> bool
-    ensures { (v : List ℕ) (at : ℕ) → byte ≡ slice_get v at → (result && begins word.now (drop at v)) ≡ begins word.now (drop at v) }
+// Whether a word may stand where this byte does.
+fn may_begin(word: &[u8], byte: u8) -> bool
+    ensures { (v : List ℕ) (at : ℕ) → Some byte ≡ slice_get v at → (result && begins word.now (drop at v)) ≡ begins word.now (drop at v) }
 {
-    word.is_empty() || byte == Some(word[0])
+    word.is_empty() || byte == word[0]
 }
 
-// Whether one of the words stands at the place. Most fail at their first byte, so that is read once for all of them.
+// Whether one of the words stands at the place. Most fail at their first byte, so that is read once for all of them; where no byte
+// stands, only a word without bytes does.
 fn some_at<P: Page>(part: &PartOf<'_, P>, at: usize, words: &[&[u8]]) -> bool
     ensures { result ≡ some_begins (map (λ x. x.now) words.now) (drop at part.now) }
 {
-    let byte = part.get(at);
-    words
-        .iter()
-        .any(|word| may_begin(word, byte) && word_at(part, at, word))
+    match part.get(at) {
+        Some(byte) => words
+            .iter()
+            .any(|word| may_begin(word, byte) && word_at(part, at, word)),
+        None => words.iter().any(|word| word.is_empty()),
+    }
 }
 
 // Whether one of the words occurs in a part, letter case counting.
