@@ -25,7 +25,7 @@ four (a ∷ b ∷ []) = refl
 four (a ∷ b ∷ c ∷ []) = refl
 four (a ∷ b ∷ c ∷ d ∷ t) = grind (arith, nat_tests)
 
-first-four : (l : List ℕ) (n : ℕ) → n ≡ min (length l) 4 → decoded (take n l) ≡ decoded l
+pub first-four : (l : List ℕ) (n : ℕ) → n ≡ min (length l) 4 → decoded (take n l) ≡ decoded l
 first-four l n e =
     elim (cases_lt (length l) 4) [ inl h ↦ ap decoded (take_all n l (omega arith)) | inr h ↦ let k : n ≡ 4 = omega arith in ap (λ j. decoded (take j l)) k ∙ four l ]
 

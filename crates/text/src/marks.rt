@@ -53,7 +53,8 @@ impl Marks {
     }
 }
 
-// Where the counter stands after a character, and whether a match ends with it.
+// Where the counter stands after a character, and whether a match ends with it: a pair, since the one match over state and
+// character decides both.
 fn moved(state: State, c: char) -> (State, bool)
     ensures { (result.0 ≡ moved state c) × (result.1 ≡ ends state c) }
 {

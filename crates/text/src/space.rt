@@ -11,6 +11,7 @@ const SPACES: [char; 25] = [
 ];
 
 // Whether c stands in the table.
+#[inline]
 pub fn is_space(c: char) -> bool
     ensures table { result ≡ space c }
     ensures unicode { result ≡ is_whitespace c }
@@ -18,5 +19,5 @@ pub fn is_space(c: char) -> bool
     if ' ' < c && c < '\u{85}' {
         return false;
     }
-    SPACES.contains(&c)
+    c == ' ' || SPACES.contains(&c)
 }

@@ -17,21 +17,19 @@ pub struct Trimmed {
     gap: usize,
 }
 
-// A figure after one character more, that adds so much to it.
-fn added(figure: Option<Trimmed>, is_space: bool, by: usize) -> Option<Trimmed>
-    ensures { result ≡ added figure is_space by }
+// One character more, that adds so much to a figure.
+#[inline(always)]
+fn add(figure: &mut Option<Trimmed>, is_space: bool, by: usize)
+    ensures { figure.new ≡ added figure.old is_space by }
 {
     match figure {
-        Some(f) if is_space => Some(Trimmed {
-            gap: f.gap.saturating_add(by),
-            ..f
-        }),
-        Some(f) => Some(Trimmed {
-            sum: f.sum.saturating_add(f.gap).saturating_add(by),
-            gap: 0,
-        }),
-        None if is_space => None,
-        None => Some(Trimmed { sum: by, gap: 0 }),
+        Some(f) if is_space => f.gap = f.gap.saturating_add(by),
+        Some(f) => {
+            f.sum = f.sum.saturating_add(f.gap).saturating_add(by);
+            f.gap = 0;
+        }
+        None if is_space => {}
+        None => *figure = Some(Trimmed { sum: by, gap: 0 }),
     }
 }
 
@@ -77,11 +75,12 @@ impl Trim {
 impl Machine for Trim {
     ghost step = { trim_step };
 
+    #[inline(always)]
     #[tactic(auto, unfolding(crate::specs::Trim::weight))]
     fn eat(&mut self, c: char) {
         let is_space = is_space(c);
-        self.chars = added(self.chars, is_space, 1);
-        self.bytes = added(self.bytes, is_space, c.len_utf8());
+        add(&mut self.chars, is_space, 1);
+        add(&mut self.bytes, is_space, c.len_utf8());
     }
 }
 
