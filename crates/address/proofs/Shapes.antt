@@ -103,7 +103,7 @@ to-parts bs n a more whole s some only =
     some_is [] h = absurd (h refl)
     some_is (x ∷ a) h = refl
 
-shaped-base : (bs : List ℕ) → Shaped bs → is_base bs ≡ true
+pub shaped-base : (bs : List ℕ) → Shaped bs → is_base bs ≡ true
 shaped-base bs h =
     and_from (leb (length bs) 2000) (list_all visible bs && shaped (components bs)) (le-leb (length bs) 2000 h.short)
     (and_from (list_all visible bs) (shaped (components bs)) ((all_seen bs).1 h.visible) (to-parts bs h.name h.host h.more h.whole h.is_scheme h.some_host h.only_host))

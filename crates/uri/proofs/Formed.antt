@@ -75,7 +75,7 @@ no_authority bs none more e =
     let z : ◌≡◌ {A = ℕ} 0 1 = cc in
     omega arith
 
-components-matched : (bs : List ℕ) → Matched bs (components bs)
+pub components-matched : (bs : List ℕ) → Matched bs (components bs)
 components-matched bs = record { whole = recompose-components bs; formed = components-formed bs; no_scheme = no_scheme bs; no_authority = no_authority bs }
 
 pub matched_by : (bs : List ℕ) (p : Parts) → p ≡ components bs → Matched bs p

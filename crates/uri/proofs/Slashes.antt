@@ -8,7 +8,7 @@ no_slash : (bs : List ℕ) → ((k : ℕ) → k < length bs → get_or bs k 0 �
 no_slash [] h = cc
 no_slash (b ∷ bs) h = ap (λ o. farther o (eqb b 47)) (no_slash bs (λ k l. h (suc k) (omega arith))) ∙ ap (farther None) (ne_eqb b 47 (h 0 (omega arith)))
 
-slash-at : (bs : List ℕ) (n : ℕ) → n < length bs → get_or bs n 0 ≡ 47 → rightmost (drop (suc n) bs) ≡ None → rightmost bs ≡ Some n
+pub slash-at : (bs : List ℕ) (n : ℕ) → n < length bs → get_or bs n 0 ≡ 47 → rightmost (drop (suc n) bs) ≡ None → rightmost bs ≡ Some n
 slash-at [] n l same e = absurd (omega arith)
 slash-at (b ∷ bs) zero l same e = ap (λ o. farther o (eqb b 47)) e ∙ ap (farther None) (eq-eqb b 47 same)
 slash-at (b ∷ bs) (suc n) l same e = ap (λ o. farther o (eqb b 47)) (slash-at bs n (omega arith) same e)

@@ -167,3 +167,7 @@ resolved-laws b r out out' a e f = subst (λ z. Lawful b r z out') (sym e) (subs
     go : (t : Bool) → Lawful b r (cond t (write_answer (resolved b r) (length out)) None) (cond t (placed (resolved b r) out) out)
     go true = written-laws b r out
     go false = tt
+
+-- and of what was written, where base and reference fit
+pub answered-laws : (b r out out' : List ℕ) (a : Option ℕ) → a ≡ write_answer (resolved b r) (length out) → out' ≡ placed (resolved b r) out → Lawful b r a out'
+answered-laws b r out out' a e f = subst (λ z. Lawful b r z out') (sym e) (subst (Lawful b r (write_answer (resolved b r) (length out))) (sym f) (written-laws b r out))

@@ -28,7 +28,7 @@ turn-shorter b bs output =
     subst (λ q. length q.0 ≤ length bs) (sym (turn_is (b ∷ bs) output)) (shorter (rule_of (b ∷ bs)) b bs output (rule-least (b ∷ bs)))
 
 -- as many turns as bytes are enough, and more change nothing
-turns-enough : (m n : ℕ) (input output : List ℕ) → length input ≤ m → length input ≤ n → turns m input output ≡ turns n input output
+pub turns-enough : (m n : ℕ) (input output : List ℕ) → length input ≤ m → length input ≤ n → turns m input output ≡ turns n input output
 turns-enough zero zero input output l k = refl
 turns-enough zero (suc n) [] output l k = refl
 turns-enough zero (suc n) (b ∷ bs) output l k = absurd (omega arith)

@@ -4,9 +4,9 @@ use Rattle.arrayvec.specs.ArrayVec.{ArrayVec, array_vec_len}
 use Rattle.uri.specs.Laws.{Laws}
 use Rattle.uri.specs.Resolve.{resolved}
 
--- whether the bytes can be appended in the memory of 4,049 bytes that a target is made in
-abbrev pub HasRoom : ArrayVec ℕ → List ℕ → Type 0
-HasRoom out bytes = array_vec_len out + length bytes ≤ 4049
+-- whether the bytes can be appended to an array vector of this capacity
+abbrev pub HasRoom : ℕ → ArrayVec ℕ → List ℕ → Type 0
+HasRoom capacity out bytes = array_vec_len out + length bytes ≤ capacity
 
 -- a buffer with the bytes at its front, where they fit
 abbrev pub placed : List ℕ → List ℕ → List ℕ

@@ -12,8 +12,8 @@ use crate::dots::put_without_dots;
 use crate::target::{Target, TargetPath};
 
 // Appends a component and the mark behind it.
-fn put_closed(out: &mut Buffer, part: Option<&[u8]>, mark: &[u8])
-    requires { HasRoom out.old (closed (option_map (λ x. x.now) part) mark.now) }
+fn put_closed<const N: usize>(out: &mut Buffer<N>, part: Option<&[u8]>, mark: &[u8])
+    requires { HasRoom N out.old (closed (option_map (λ x. x.now) part) mark.now) }
     ensures { out.new.items ≡ out.old.items ++ closed (option_map (λ x. x.now) part.entry) mark.now }
 {
     if let Some(bytes) = part {
@@ -24,8 +24,8 @@ fn put_closed(out: &mut Buffer, part: Option<&[u8]>, mark: &[u8])
 
 // Appends a component behind its mark, where `put_closed` has the mark behind the component. One function for both would take an empty mark
 // at each call.
-fn put_led(out: &mut Buffer, mark: &[u8], part: Option<&[u8]>)
-    requires { HasRoom out.old (led mark.now (option_map (λ x. x.now) part)) }
+fn put_led<const N: usize>(out: &mut Buffer<N>, mark: &[u8], part: Option<&[u8]>)
+    requires { HasRoom N out.old (led mark.now (option_map (λ x. x.now) part)) }
     ensures { out.new.items ≡ out.old.items ++ led mark.now (option_map (λ x. x.now) part.entry) }
 {
     if let Some(bytes) = part {
@@ -35,20 +35,20 @@ fn put_led(out: &mut Buffer, mark: &[u8], part: Option<&[u8]>)
 }
 
 // Appends two parts of a path, without the dot segments of the whole.
-fn put_merged(out: &mut Buffer, front: &[u8], path: &[u8])
-    requires { HasRoom out.old (front.now ++ path.now) }
+fn put_merged<const N: usize>(out: &mut Buffer<N>, front: &[u8], path: &[u8])
+    requires { HasRoom N out.old (front.now ++ path.now) }
     ensures out { out.new.items ≡ out.old.items ++ remove_dots (front.now ++ path.now) }
     ensures short { array_vec_len out.new ≤ array_vec_len out.old + length (front.now ++ path.now) }
 {
-    let mut merged = Buffer::new();
+    let mut merged = Buffer::<N>::new();
     put(&mut merged, front);
     put(&mut merged, path);
     put_without_dots(out, merged.as_slice());
 }
 
 // Appends a path, without its dot segments where it is not the base's own.
-fn put_path(out: &mut Buffer, path: TargetPath<'_>)
-    requires { HasRoom out.old (bytes_of_path path) }
+fn put_path<const N: usize>(out: &mut Buffer<N>, path: TargetPath<'_>)
+    requires { HasRoom N out.old (bytes_of_path path) }
     ensures out { out.new.items ≡ out.old.items ++ cleaned (kept_of path.entry) (bytes_of_path path.entry) }
     ensures short { array_vec_len out.new ≤ array_vec_len out.old + length (bytes_of_path path.entry) }
 {
@@ -59,8 +59,8 @@ fn put_path(out: &mut Buffer, path: TargetPath<'_>)
 }
 
 // Appends a target.
-pub(crate) fn put_target(out: &mut Buffer, target: Target<'_>)
-    requires { array_vec_len out.old + room (draft_of target) ≤ 4049 }
+pub(crate) fn put_target<const N: usize>(out: &mut Buffer<N>, target: Target<'_>)
+    requires { array_vec_len out.old + room (draft_of target) ≤ N }
     ensures { out.new.items ≡ out.old.items ++ recompose (finished (draft_of target.entry)) }
 {
     put_closed(out, target.scheme, b":");

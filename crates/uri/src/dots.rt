@@ -15,7 +15,7 @@ pub(crate) fn last_slash(bytes: &[u8]) -> Option<usize>
 }
 
 // The output loses its last segment and the slash before that.
-fn drop_last(output: &mut Buffer)
+fn drop_last<const N: usize>(output: &mut Buffer<N>)
     ensures { output.new.items ≡ without_last output.old.items }
 {
     let kept = last_slash(output.as_slice()).unwrap_or(0);
@@ -33,9 +33,9 @@ fn cut_segment(input: &[u8]) -> (&[u8], &[u8])
 }
 
 // One turn: the first rule that applies to the input. It answers what is left of that.
-fn take_turn<'a>(input: &'a [u8], output: &mut Buffer) -> &'a [u8]
+fn take_turn<'a, const N: usize>(input: &'a [u8], output: &mut Buffer<N>) -> &'a [u8]
     requires some { 0 < length input.now }
-    requires room { HasRoom output.old input.now }
+    requires room { HasRoom N output.old input.now }
     ensures input { result.now ≡ (turn input.now output.old.items).0 }
     ensures output { output.new.items ≡ (turn input.now output.old.items).1 }
 {
@@ -61,11 +61,11 @@ fn take_turn<'a>(input: &'a [u8], output: &mut Buffer) -> &'a [u8]
 }
 
 // Appends the path without its dot segments, by the standard's loop: what a turn leaves is the input of the next.
-pub(crate) fn put_without_dots(out: &mut Buffer, path: &[u8])
-    requires { HasRoom out.old path.now }
+pub(crate) fn put_without_dots<const N: usize>(out: &mut Buffer<N>, path: &[u8])
+    requires { HasRoom N out.old path.now }
     ensures { out.new.items ≡ out.old.items ++ remove_dots path.now }
 {
-    let mut output = Buffer::new();
+    let mut output = Buffer::<N>::new();
     let mut input = path;
     while !input.is_empty() {
         input = take_turn(input, &mut output);

@@ -3,7 +3,7 @@ use Rattle.uri.proofs.Shorter.{Going}
 use Rattle.uri.proofs.dots.put_without_dots.Given as goal
 
 abbrev pub invariant-loop-input : goal.invariant-loop-input
-invariant-loop-input l = Going l.path l.input l.output.items
+invariant-loop-input o l = Going l.path l.input l.output.items
 
 abbrev pub decreases-loop-input : goal.decreases-loop-input
-decreases-loop-input l = length l.input
+decreases-loop-input o l = length l.input
