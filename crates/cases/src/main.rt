@@ -2,6 +2,8 @@
 // the file in hexadecimal, `HEX` or `HEX*COUNT`. Of a long answer the first line and the length are printed.
 #![tactic(auto)]
 
+ghost use Rattle.std.specs.Prelude.{◌≡◌, ◌≤◌, length, take};
+
 use anyhow::{Context, anyhow};
 use render::outline;
 use std::alloc::Global;
@@ -20,20 +22,22 @@ fn digit(b: u8) -> Option<u8> {
     }
 }
 
+// The byte of two digits.
+fn byte([high, low]: &[u8; 2]) -> Option<u8> {
+    Some(digit(*high)? << 4 | digit(*low)?)
+}
+
 // The bytes of a hexadecimal number. A digit that is left over at its end is passed over.
 fn unhex(heap: Global, text: &str) -> anyhow::Result<Vec<u8>> {
-    let digits = text
-        .bytes()
-        .map(digit)
+    let (pairs, left) = text.as_bytes().as_chunks::<2>();
+    if left.iter().any(|b| digit(*b).is_none()) {
+        return Err(anyhow!("a piece is not hexadecimal"));
+    }
+    pairs
+        .iter()
+        .map(byte)
         .collect::<Option<Vec<u8>>>(heap)?
-        .context("a piece is not hexadecimal")?;
-    let (pairs, _) = digits.as_slice().as_chunks::<2>();
-    Ok(
-        pairs
-            .iter()
-            .map(|[high, low]| high << 4 | low)
-            .collect(heap)?,
-    )
+        .context("a piece is not hexadecimal")
 }
 
 // Appends a piece as often as it says.
@@ -53,7 +57,10 @@ fn add(heap: Global, file: &mut Vec<u8>, piece: &str) -> anyhow::Result<()> {
 }
 
 // The first line of a text, with its end.
-fn first_line(text: &[u8]) -> &[u8] {
+fn first_line(text: &[u8]) -> &[u8]
+    ensures inside { length result.now ≤ length text.now }
+    ensures front { result.now ≡ take (length result.now) text.now }
+{
     match text.iter().position(|b| *b == b'\n') {
         Some(i) => &text[..=i],
         None => text,

@@ -23,11 +23,14 @@ pub fn refusal_text(heap: Global, check: Check) -> Result<Vec<u8>, AllocError>
 fn header_text(heap: Global, counts: Counts) -> Result<Vec<u8>, AllocError>
     ensures { IfOk result (λ v. v.items ≡ header counts.nodes counts.attrs counts.bytes) }
 {
-    Ok(format!(in heap;
+    let mut text = format!(in heap;
         "# {} nodes, {} attributes, {} bytes\n",
         counts.nodes, counts.attrs, counts.bytes
     )?
-    .into_bytes())
+    .into_bytes();
+    // The answer grows by doubling this memory. Begun with the string's spare bytes too, some answers took half as much memory again.
+    text.shrink_to_fit();
+    Ok(text)
 }
 
 // The text of an opened page.
