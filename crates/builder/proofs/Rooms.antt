@@ -60,7 +60,7 @@ pub open-inside : (s : State) → sound s ≡ true → s.current < length s.node
 open-inside s ok = let h = sound-is s ok in omega (arith, h.inside, h.nodes)
 
 -- a parent stands before its child
-parent-before : (s : State) (q : ℕ) → sound s ≡ true → (open_node s).parent ≡ Some q → q < s.current
+pub parent-before : (s : State) (q : ℕ) → sound s ≡ true → (open_node s).parent ≡ Some q → q < s.current
 parent-before s q ok e =
     let h = sound-is s ok in
     let t = used_table s in

@@ -87,15 +87,15 @@ impl Under {
         requires { Small (element_of tag self.now) }
         ensures { result ≡ element_of tag self.now }
     {
-        let linked = if tag == Tag::Anchor { self.text } else { 0 };
+        let linked = if Tag::Anchor.is(tag) { self.text } else { 0 };
         Under {
             links: linked + self.links,
             block: tag.is_among(&BLOCK_CHILD_TAGS) || self.block,
-            paragraphs: usize::from(tag == Tag::P) + self.paragraphs,
-            images: usize::from(tag == Tag::Img) + self.images,
-            items: usize::from(tag == Tag::Li) + self.items,
-            inputs: usize::from(tag == Tag::Input) + self.inputs,
-            embeds: usize::from(tag == Tag::Embed) + self.embeds,
+            paragraphs: usize::from(Tag::P.is(tag)) + self.paragraphs,
+            images: usize::from(Tag::Img.is(tag)) + self.images,
+            items: usize::from(Tag::Li.is(tag)) + self.items,
+            inputs: usize::from(Tag::Input.is(tag)) + self.inputs,
+            embeds: usize::from(Tag::Embed.is(tag)) + self.embeds,
             long: 0,
             ..*self
         }

@@ -42,7 +42,7 @@ divisor-is t h = omega arith
 doubled : (a b c d t u r s p q : ℕ) → p ≡ 2 * t → q ≡ 2 * u → a * 2 ^ 22 * t + r + b * 2 ^ 22 * u + s < c * 2 ^ 22 * u + d * 2 ^ 22 * t → a * p + b * q < c * q + d * p
 doubled a b c d t u r s p q e f h = rw (e, f) (grind arith)
 
-exceeds-over : (p q : Points) → 1 ≤ p.t → 1 ≤ q.t → Over 0 p q → T (greater (fraction p) (fraction q))
+pub exceeds-over : (p q : Points) → 1 ≤ p.t → 1 ≤ q.t → Over 0 p q → T (greater (fraction p) (fraction q))
 exceeds-over p q P Q h =
     exceeds-by greater plus less divisor compares (fraction p) (fraction q)
     (doubled (up (exact q)) (down (exact p)) (up (exact p)) (down (exact q)) p.t q.t (margin 0 q * p.t) (margin 0 p * q.t) _ _ (divisor-is p.t P) (divisor-is q.t Q) h)

@@ -54,7 +54,7 @@ apart px lx py ly t u u_e d_e s_e u_f d_f s_f n J K P b x y =
 chosen : (x : Float) → T (float_is_finite x) → cond (float_is_finite x) x nought ≡ x
 chosen x h = grind arith
 
-exceeds-over : (p q : Points) → InRange p → InRange q → Over 1 p q → T (greater (rounded p) (rounded q))
+pub exceeds-over : (p q : Points) → InRange p → InRange q → Over 1 p q → T (greater (rounded p) (rounded q))
 exceeds-over p q i j b =
     let x = settled p i in
     let y = settled q j in

@@ -35,7 +35,7 @@ abbrev pub OffBy : Bool → ℕ → ℕ → ℕ → Type 0
 OffBy false g plus less = Off g plus less (plus + less)
 OffBy true g plus less = Off g less plus (plus + less)
 
-off-some : (over : Bool) (H T L N g1 g2 g3 M : ℕ) → 1 ≤ H → 2 ^ 60 ≤ N → Steps H T L N g1 g2 g3 M → Rest over M g1 N → OffBy over (g3 * T) (N * (T * H)) (L * N * H)
+pub off-some : (over : Bool) (H T L N g1 g2 g3 M : ℕ) → 1 ≤ H → 2 ^ 60 ≤ N → Steps H T L N g1 g2 g3 M → Rest over M g1 N → OffBy over (g3 * T) (N * (T * H)) (L * N * H)
 off-some false H T L N g1 g2 g3 M h big s r =
     let a = scale g1 (L * N) T H s.first in
     let b = scale g2 M 1 (T * H) s.second in

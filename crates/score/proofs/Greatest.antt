@@ -15,7 +15,7 @@ pub clash : (b : Bool) → b ≡ false → T b → ⊥
 clash true e t = true≢false e
 clash false e t = t
 
-ranks : {S : Type 0} (exceeds : S → S → Bool) → Order exceeds → IsStrictWeakOrder exceeds
+pub ranks : {S : Type 0} (exceeds : S → S → Bool) → Order exceeds → IsStrictWeakOrder exceeds
 ranks exceeds o = record {
   one_way = λ x y e. false_from_ne_true (exceeds y x) (λ t. o.irreflexive x (o.transitive x y x (passes (exceeds x y) e) (passes (exceeds y x) t)));
   chain = λ x y z e f. false_from_ne_true (exceeds x z)

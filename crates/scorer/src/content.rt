@@ -17,7 +17,7 @@ const TEXT_TAGS: [Tag; 4] = [Tag::Div, Tag::Article, Tag::Center, Tag::Section];
 pub fn qualifies_by(tag: Tag, under: &Under) -> bool
     ensures { result ≡ qualifies_by tag under.now }
 {
-    under.text >= 20 && (tag == Tag::P || tag.is_among(&TEXT_TAGS) && !under.block)
+    under.text >= 20 && (Tag::P.is(tag) || tag.is_among(&TEXT_TAGS) && !under.block)
 }
 
 // The content score, by the figures of what is under a node.
